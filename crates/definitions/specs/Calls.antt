@@ -1,0 +1,259 @@
+-- 01, "Draws from lent random octets" (keys, sealing, opening, adding, zero test) with "Refusal table": the answer of every call.
+--
+--   smallOf          the small element packed in some octets
+--   secretX, secretY u_x and u_y of a secret's octets
+--   polynomialFrom   the polynomial over R_q in some octets
+--   octetsFrom       the octets of a polynomial
+--   secretPadded     whether both halves of a secret have zero in their unused bits
+--   elementsFit      whether each of so many elements' coefficients is below q
+--   ..Answer         keygenAnswer (01: key making), isZeroAnswer (zero test), encryptAnswer (sealing), addAnswer (adding),
+--                    decryptAnswer (opening): the answer, from the octets given and the lengths of the buffers lent
+--   ..Exit           the same with every output and the work words at exit, from what they held before
+--
+-- Each answer is two ordered lists of tests, up to the length test and after it, and the values that are given where no test applies.
+-- Assumes nothing.
+use Prim.Native.Nat.{ℕ, suc, _+_, _-_, _*_, _%_}
+use mathlib.Core.Bool.{Bool, cond, _&&_, _||_, not}
+use mathlib.Core.List.{List, [], _∷_, _++_}
+use lib.Dec.{eqb, ltb}
+use lib.ListN.{length, getD, take, drop}
+use Rattle.definitions.specs.Sequences.{every, tabulate}
+use Rattle.definitions.specs.Refusals.{Test, refuse, Answer, answer, number, output, workAtExit}
+use Rattle.definitions.specs.Parameters.{Parameters, degree, smallBits, setTests, qlen, monomialCount, smallLength, secretLength, publicLength, ciphertextLength, messageLength, workLength}
+use Rattle.definitions.specs.Ring.{Element, elementOf, modulo, scale}
+use Rattle.definitions.specs.Monomials.{Polynomial, polynomialOf, coefficientsOf, constantTerm, sumOf, productOf, valueOver, value}
+use Rattle.definitions.specs.Octets.{decoded, encoded, coefficientsFit, unpacked, packed, paddingClear}
+use Rattle.definitions.specs.Draws.{Drawn, candidates, draws, secretDrawn, noiseDrawn}
+
+-- ---- octets to ring elements and back
+
+unfoldable pub smallOf : Parameters → List ℕ → Element
+smallOf p octets = elementOf (unpacked (smallBits (p .l)) (p .n) octets)
+
+unfoldable pub secretX : Parameters → List ℕ → Element
+secretX p secret = smallOf p (take (smallLength p) secret)
+
+unfoldable pub secretY : Parameters → List ℕ → Element
+secretY p secret = smallOf p (drop (smallLength p) secret)
+
+unfoldable pub decodedElements : Parameters → ℕ → List ℕ → List ℕ
+decodedElements p elements octets = decoded (qlen (p .q)) (elements * p .n) octets
+
+unfoldable pub polynomialFrom : Parameters → ℕ → List ℕ → Polynomial
+polynomialFrom p d octets = polynomialOf (p .n) (decodedElements p (monomialCount d) octets)
+
+unfoldable pub octetsFrom : Parameters → ℕ → Polynomial → List ℕ
+octetsFrom p d f = encoded (qlen (p .q)) (coefficientsOf (p .n) (monomialCount d) f)
+
+unfoldable pub secretPadded : Parameters → List ℕ → Bool
+secretPadded p secret =
+    paddingClear (p .n * smallBits (p .l)) (take (smallLength p) secret)
+    && paddingClear (p .n * smallBits (p .l)) (drop (smallLength p) secret)
+
+unfoldable pub elementsFit : Parameters → ℕ → List ℕ → Bool
+elementsFit p elements octets = coefficientsFit (p .q) (decodedElements p elements octets)
+
+-- the tests up to the length test, which applies where a length is not the exact one
+unfoldable pub lengthTests : Parameters → Bool → List Test
+lengthTests p exact = setTests p ++ (refuse 6 (not exact) ∷ [])
+
+-- ---- key generation (01: key making)
+
+pub record KeyPair : Type 0 where
+  pub secret : List ℕ
+  pub public : List ℕ
+  pub used : ℕ
+
+-- the elements drawn after u_x and u_y: all but the constant
+unfoldable pub keyDraws : Parameters → List ℕ → Drawn
+keyDraws p random = draws (p .q) ((monomialCount (p .dx) - 1) * p .n) (candidates (p .q) (drop (secretLength p) random))
+
+-- minus the sum of a_ij × u_x^i × u_y^j over the others
+unfoldable pub keyConstant : Parameters → List ℕ → Element → Element → Element
+keyConstant p others ux uy k =
+    (p .q - valueOver (monomialCount (p .dx) - 1) (p .n) (p .dx) (polynomialOf (p .n) others) ux uy k % p .q) % p .q
+
+unfoldable pub keyPairOf : Parameters → List ℕ → List ℕ → Drawn → KeyPair
+keyPairOf p ux uy others =
+    record {
+      secret = packed (smallBits (p .l)) (smallLength p) ux ++ packed (smallBits (p .l)) (smallLength p) uy;
+      public = encoded (qlen (p .q)) (others .values ++ tabulate (p .n) (keyConstant p (others .values) (elementOf ux) (elementOf uy)));
+      used = secretLength p + qlen (p .q) * others .groups;
+    }
+
+unfoldable pub keygenAnswer : Parameters → List ℕ → ℕ → ℕ → ℕ → Answer KeyPair
+keygenAnswer p random secretLen publicLen workLen =
+    answer
+    (lengthTests p (eqb secretLen (secretLength p) && (eqb publicLen (publicLength p) && eqb workLen (workLength p))))
+    (refuse 9 (ltb (length random) (secretLength p) || not (keyDraws p random .enough)) ∷ [])
+    (keyPairOf p (secretDrawn p random) (secretDrawn p (drop (smallLength p) random)) (keyDraws p random))
+
+-- ---- zero test
+
+unfoldable pub isZeroAt : Parameters → Polynomial → Element → Element → Bool
+isZeroAt p key ux uy = every (p .n) (λ k. eqb (modulo (p .q) (value (p .n) (p .dx) key ux uy) k) 0)
+
+unfoldable pub isZeroAnswer : Parameters → List ℕ → List ℕ → ℕ → Answer Bool
+isZeroAnswer p secret public workLen =
+    answer
+    (lengthTests p
+    (eqb (length secret) (secretLength p) && (eqb (length public) (publicLength p) && eqb workLen (workLength p))))
+    (refuse 7 (not (secretPadded p secret)) ∷ refuse 8 (not (elementsFit p (monomialCount (p .dx)) public)) ∷ [])
+    (isZeroAt p (polynomialFrom p (p .dx) public) (secretX p secret) (secretY p secret))
+
+-- ---- encryption (01: sealing)
+
+pub record Encrypted : Type 0 where
+  pub ciphertext : List ℕ
+  pub used : ℕ
+
+-- the elements of r
+unfoldable pub maskDraws : Parameters → List ℕ → Drawn
+maskDraws p random = draws (p .q) (monomialCount (p .dr) * p .n) (candidates (p .q) random)
+
+-- the small elements of e, from the octets after r
+unfoldable pub noiseOf : Parameters → List ℕ → Polynomial
+noiseOf p random i = elementOf (noiseDrawn p (drop (i * smallLength p) random))
+
+-- c = m + X × r + ℓ × e, over R_q
+unfoldable pub encryptedWith : Parameters → Polynomial → Element → Polynomial → Polynomial → Polynomial
+encryptedWith p key m r e i =
+    modulo (p .q)
+    (sumOf (sumOf (constantTerm (degree p) m) (productOf (p .n) (p .dx) (p .dr) key r)) (λ j. scale (p .l) (e j)) i)
+
+unfoldable pub maskLength : Parameters → List ℕ → ℕ
+maskLength p random = qlen (p .q) * maskDraws p random .groups
+
+unfoldable pub encryptUsed : Parameters → List ℕ → ℕ
+encryptUsed p random = maskLength p random + monomialCount (degree p) * smallLength p
+
+unfoldable pub encryptAnswer : Parameters → List ℕ → List ℕ → List ℕ → ℕ → ℕ → Answer Encrypted
+encryptAnswer p public message random ciphertextLen workLen =
+    answer
+    (lengthTests p
+    (eqb (length public) (publicLength p)
+    && (eqb (length message) (messageLength p)
+    && (eqb ciphertextLen (ciphertextLength p) && eqb workLen (workLength p)))))
+    (refuse 7 (not (paddingClear (p .mlen) message))
+    ∷ refuse 8 (not (elementsFit p (monomialCount (p .dx)) public))
+    ∷ refuse 9 (not (maskDraws p random .enough) || ltb (length random) (encryptUsed p random))
+    ∷ [])
+    (record {
+      ciphertext =
+          octetsFrom p (degree p)
+          (encryptedWith p (polynomialFrom p (p .dx) public) (smallOf p message) (polynomialOf (p .n) (maskDraws p random .values))
+          (noiseOf p (drop (maskLength p random) random)));
+      used = encryptUsed p random;
+    })
+
+-- ---- addition (01: adding)
+
+unfoldable pub sumModulo : Parameters → Polynomial → Polynomial → Polynomial
+sumModulo p a b i = modulo (p .q) (sumOf a b i)
+
+unfoldable pub addAnswer : Parameters → List ℕ → List ℕ → ℕ → Answer (List ℕ)
+addAnswer p a b sumLen =
+    answer
+    (lengthTests p
+    (eqb (length a) (ciphertextLength p) && (eqb (length b) (ciphertextLength p) && eqb sumLen (ciphertextLength p))))
+    (refuse 8 (not (elementsFit p (monomialCount (degree p)) a && elementsFit p (monomialCount (degree p)) b)) ∷ [])
+    (octetsFrom p (degree p) (sumModulo p (polynomialFrom p (degree p) a) (polynomialFrom p (degree p) b)))
+
+-- ---- decryption (01: opening)
+
+-- w = c(u_x, u_y) in R_q
+unfoldable pub decryptedValue : Parameters → Polynomial → Element → Element → Element
+decryptedValue p c ux uy = modulo (p .q) (value (p .n) (degree p) c ux uy)
+
+-- each coefficient of w as a number 0 to q - 1, then modulo ℓ
+unfoldable pub decryptedElement : Parameters → Polynomial → Element → Element → Element
+decryptedElement p c ux uy = modulo (p .l) (decryptedValue p c ux uy)
+
+-- whether each coefficient past mlen bits is zero
+unfoldable pub tailClear : Parameters → Element → Bool
+tailClear p m = every (p .n) (λ k. ltb (k * smallBits (p .l)) (p .mlen) || eqb (m k) 0)
+
+unfoldable pub messageOf : Parameters → Element → List ℕ
+messageOf p m = packed (smallBits (p .l)) (messageLength p) (tabulate (p .n) m)
+
+unfoldable pub decryptedFrom : Parameters → List ℕ → List ℕ → Element
+decryptedFrom p secret ciphertext =
+    decryptedElement p (polynomialFrom p (degree p) ciphertext) (secretX p secret) (secretY p secret)
+
+unfoldable pub decryptAnswer : Parameters → List ℕ → List ℕ → ℕ → ℕ → Answer (List ℕ)
+decryptAnswer p secret ciphertext messageLen workLen =
+    answer
+    (lengthTests p
+    (eqb (length secret) (secretLength p)
+    && (eqb (length ciphertext) (ciphertextLength p)
+    && (eqb messageLen (messageLength p) && eqb workLen (workLength p)))))
+    (refuse 7 (not (secretPadded p secret))
+    ∷ refuse 8 (not (elementsFit p (monomialCount (degree p)) ciphertext))
+    ∷ refuse 10 (not (tailClear p (decryptedFrom p secret ciphertext)))
+    ∷ [])
+    (messageOf p (decryptedFrom p secret ciphertext))
+
+-- ---- what the caller has at exit: the number, every output and the work words
+
+pub record KeygenExit : Type 0 where
+  pub refusal : ℕ
+  pub secret : List ℕ
+  pub public : List ℕ
+  pub used : ℕ
+  pub work : List ℕ
+
+unfoldable pub keygenExit : Parameters → List ℕ → List ℕ → List ℕ → ℕ → List ℕ → KeygenExit
+keygenExit p random secret public used work =
+    let a = keygenAnswer p random (length secret) (length public) (length work) in
+    record {
+      refusal = number a;
+      secret = output (λ k. k .secret) a secret;
+      public = output (λ k. k .public) a public;
+      used = output (λ k. k .used) a used;
+      work = workAtExit a work;
+    }
+
+pub record IsZeroExit : Type 0 where
+  pub refusal : ℕ
+  pub zero : ℕ
+  pub work : List ℕ
+
+unfoldable pub isZeroExit : Parameters → List ℕ → List ℕ → ℕ → List ℕ → IsZeroExit
+isZeroExit p secret public answered work =
+    let a = isZeroAnswer p secret public (length work) in
+    record { refusal = number a; zero = output (λ holds. cond holds 1 0) a answered; work = workAtExit a work }
+
+pub record EncryptExit : Type 0 where
+  pub refusal : ℕ
+  pub ciphertext : List ℕ
+  pub used : ℕ
+  pub work : List ℕ
+
+unfoldable pub encryptExit : Parameters → List ℕ → List ℕ → List ℕ → List ℕ → ℕ → List ℕ → EncryptExit
+encryptExit p public message random ciphertext used work =
+    let a = encryptAnswer p public message random (length ciphertext) (length work) in
+    record {
+      refusal = number a;
+      ciphertext = output (λ e. e .ciphertext) a ciphertext;
+      used = output (λ e. e .used) a used;
+      work = workAtExit a work;
+    }
+
+pub record AddExit : Type 0 where
+  pub refusal : ℕ
+  pub sum : List ℕ
+
+unfoldable pub addExit : Parameters → List ℕ → List ℕ → List ℕ → AddExit
+addExit p a b sum =
+    let answer = addAnswer p a b (length sum) in
+    record { refusal = number answer; sum = output (λ c. c) answer sum }
+
+pub record DecryptExit : Type 0 where
+  pub refusal : ℕ
+  pub message : List ℕ
+  pub work : List ℕ
+
+unfoldable pub decryptExit : Parameters → List ℕ → List ℕ → List ℕ → List ℕ → DecryptExit
+decryptExit p secret ciphertext message work =
+    let a = decryptAnswer p secret ciphertext (length message) (length work) in
+    record { refusal = number a; message = output (λ m. m) a message; work = workAtExit a work }

@@ -1,0 +1,50 @@
+-- 01, "What the library does": the conversions between octets and coefficient words, with "Refusal table".
+--
+--   fromOctetsAnswer so many ring elements from octets; toOctetsAnswer: back. Ring elements are 1, a public key is N(dX), a ciphertext N(D)
+--   smallFromAnswer  a small element from octets; smallToAnswer: back
+--   ConversionExit   the number and the output at exit, from what it held before
+-- Assumes nothing.
+use Prim.Native.Nat.{ℕ, _*_}
+use mathlib.Core.Bool.{_&&_, not}
+use mathlib.Core.List.{List, [], _∷_}
+use lib.Dec.{eqb}
+use lib.ListN.{length}
+use Rattle.definitions.specs.Refusals.{refuse, Answer, answer, number, output}
+use Rattle.definitions.specs.Parameters.{Parameters, smallBits, qlen, smallLength, elementsLength}
+use Rattle.definitions.specs.Octets.{encoded, coefficientsFit, unpacked, packed, paddingClear}
+use Rattle.definitions.specs.Calls.{lengthTests, elementsFit, decodedElements}
+
+unfoldable pub fromOctetsAnswer : Parameters → ℕ → List ℕ → ℕ → Answer (List ℕ)
+fromOctetsAnswer p elements octets wordsLen =
+    answer
+    (lengthTests p (eqb (length octets) (elementsLength p elements) && eqb wordsLen (elements * p .n)))
+    (refuse 8 (not (elementsFit p elements octets)) ∷ [])
+    (decodedElements p elements octets)
+
+unfoldable pub toOctetsAnswer : Parameters → ℕ → List ℕ → ℕ → Answer (List ℕ)
+toOctetsAnswer p elements words octetsLen =
+    answer
+    (lengthTests p (eqb (length words) (elements * p .n) && eqb octetsLen (elementsLength p elements)))
+    (refuse 8 (not (coefficientsFit (p .q) words)) ∷ [])
+    (encoded (qlen (p .q)) words)
+
+unfoldable pub smallFromAnswer : Parameters → List ℕ → ℕ → Answer (List ℕ)
+smallFromAnswer p octets wordsLen =
+    answer
+    (lengthTests p (eqb (length octets) (smallLength p) && eqb wordsLen (p .n)))
+    (refuse 7 (not (paddingClear (p .n * smallBits (p .l)) octets)) ∷ [])
+    (unpacked (smallBits (p .l)) (p .n) octets)
+
+unfoldable pub smallToAnswer : Parameters → List ℕ → ℕ → Answer (List ℕ)
+smallToAnswer p words octetsLen =
+    answer
+    (lengthTests p (eqb (length words) (p .n) && eqb octetsLen (smallLength p)))
+    (refuse 8 (not (coefficientsFit (p .l) words)) ∷ [])
+    (packed (smallBits (p .l)) (smallLength p) words)
+
+pub record ConversionExit : Type 0 where
+  pub refusal : ℕ
+  pub converted : List ℕ
+
+unfoldable pub conversionExit : Answer (List ℕ) → List ℕ → ConversionExit
+conversionExit a old = record { refusal = number a; converted = output (λ out. out) a old }

@@ -1,0 +1,112 @@
+-- 01, "The book of sums": the list of calls, what it gives, and the ledger that is kept of it.
+--
+--   Operand          what an addition was lent: a ciphertext that the list gave, by its place, or any other octets
+--   Call             an encryption or an addition, with its buffers' lengths
+--   Given            the ciphertexts given so far, oldest first: the state of the list
+--   callAnswer       the answer of a call, by the refusal table
+--   givenAfter       the state after a call;  givenBy: after a list of calls
+--   Event            what the ledger is told of a call: nothing, a message, or which two ciphertexts were added
+--   events           of a list of calls, in order
+--   Entry            a count s, and a whole number for each place (01: a power of t)
+--   ledger           the entries of a list of events, oldest first
+--   Legal            each accepted addition was lent two ciphertexts of the list; a refused call may have been lent anything
+-- Assumes nothing.
+use Prim.Native.Nat.{ℕ, _+_, _<_}
+use mathlib.Core.List.{List, [], _∷_, _++_}
+use lib.ListN.{length, getD}
+use Rattle.definitions.specs.Refusals.{Answer, untouched, refused, accepted, output}
+use Rattle.definitions.specs.Parameters.{Parameters}
+use Rattle.definitions.specs.Ring.{Element, add}
+use Rattle.definitions.specs.Calls.{Encrypted, smallOf, encryptAnswer, addAnswer}
+
+pub data Operand : Type 0 where
+  given : ℕ → Operand
+  other : List ℕ → Operand
+
+pub data Call : Type 0 where
+  encrypt : (message random : List ℕ) (ciphertextLen workLen : ℕ) → Call
+  addition : (a b : Operand) (sumLen : ℕ) → Call
+
+abbrev pub Given : Type 0
+Given = List (List ℕ)
+
+unfoldable pub operandOf : Given → Operand → List ℕ
+operandOf state (given i) = getD state i []
+operandOf state (other octets) = octets
+
+-- the ciphertext that a call gives, or its refusal
+unfoldable pub ciphertextAnswer : Answer Encrypted → Answer (List ℕ)
+ciphertextAnswer (untouched k) = untouched k
+ciphertextAnswer (refused k) = refused k
+ciphertextAnswer (accepted e) = accepted (e .ciphertext)
+
+unfoldable pub callAnswer : Parameters → List ℕ → Given → Call → Answer (List ℕ)
+callAnswer p public state (encrypt message random ciphertextLen workLen) =
+    ciphertextAnswer (encryptAnswer p public message random ciphertextLen workLen)
+callAnswer p public state (addition a b sumLen) = addAnswer p (operandOf state a) (operandOf state b) sumLen
+
+unfoldable pub givenAfter : Parameters → List ℕ → Given → Call → Given
+givenAfter p public state call = output (λ c. state ++ (c ∷ [])) (callAnswer p public state call) state
+
+unfoldable pub givenBy : Parameters → List ℕ → Given → List Call → Given
+givenBy p public state [] = state
+givenBy p public state (call ∷ calls) = givenBy p public (givenAfter p public state call) calls
+
+pub data Event : Type 0 where
+  nothing : Event
+  encrypted : List ℕ → Event
+  added : ℕ → ℕ → Event
+
+-- what the ledger is told of a call that is accepted
+unfoldable pub eventOf : Call → Event
+eventOf (encrypt message random ciphertextLen workLen) = encrypted message
+eventOf (addition (given i) (given j) sumLen) = added i j
+eventOf (addition (given i) (other b) sumLen) = nothing
+eventOf (addition (other a) b sumLen) = nothing
+
+unfoldable pub events : Parameters → List ℕ → Given → List Call → List Event
+events p public state [] = []
+events p public state (call ∷ calls) =
+    output (λ c. eventOf call) (callAnswer p public state call) nothing ∷ events p public (givenAfter p public state call) calls
+
+pub record Entry : Type 0 where
+  pub count : ℕ
+  pub places : Element
+
+abbrev pub noEntry : Entry
+noEntry = record { count = 0; places = λ k. 0 }
+
+abbrev pub entrySum : Entry → Entry → Entry
+entrySum a b = record { count = a .count + b .count; places = add (a .places) (b .places) }
+
+unfoldable pub entryAfter : Parameters → List Entry → Event → List Entry
+entryAfter p entries nothing = entries
+entryAfter p entries (encrypted message) = entries ++ (record { count = 1; places = smallOf p message } ∷ [])
+entryAfter p entries (added i j) = entries ++ (entrySum (getD entries i noEntry) (getD entries j noEntry) ∷ [])
+
+unfoldable pub ledgerFrom : Parameters → List Entry → List Event → List Entry
+ledgerFrom p entries [] = entries
+ledgerFrom p entries (event ∷ later) = ledgerFrom p (entryAfter p entries event) later
+
+unfoldable pub ledger : Parameters → List Event → List Entry
+ledger p list = ledgerFrom p [] list
+
+-- an operand is a ciphertext that the list gave
+unfoldable pub FromList : Given → Operand → Type 0
+FromList state (given i) = i < length state
+FromList state (other octets) = ⊥
+
+-- what is asked of a call that is accepted
+unfoldable pub LentFromList : Given → Call → Type 0
+LentFromList state (encrypt message random ciphertextLen workLen) = Unit {0}
+LentFromList state (addition a b sumLen) = FromList state a × FromList state b
+
+unfoldable pub LegalCall : Given → Call → Answer (List ℕ) → Type 0
+LegalCall state call (untouched k) = Unit {0}
+LegalCall state call (refused k) = Unit {0}
+LegalCall state call (accepted c) = LentFromList state call
+
+unfoldable pub Legal : Parameters → List ℕ → Given → List Call → Type 0
+Legal p public state [] = Unit {0}
+Legal p public state (call ∷ calls) =
+    LegalCall state call (callAnswer p public state call) × Legal p public (givenAfter p public state call) calls

@@ -1,0 +1,44 @@
+-- 01, "Ring, monomials, octets", first paragraph: R_q and R_ℓ.
+--
+--   Element          a polynomial in t below degree n: the coefficient of t^k stands at k
+--   elementOf        the element whose coefficients are a list's
+--   modulo           each coefficient modulo q: an element of R_q is one that this leaves as it is
+--   add, scale       the sum of two elements; an element times a number
+--   conv             the product with t^n = 1: a_i × b_j goes to the place (i + j) modulo n (the cyclic convolution)
+--   one, power       1, and the powers of an element
+--   InRing           every coefficient below q: R_q, and R_ℓ where ℓ stands for q
+--
+-- Sum and product are taken over the whole numbers; R_q's are these modulo q.
+-- Assumes nothing.
+use Prim.Native.Nat.{ℕ, zero, suc, _+_, _*_, _%_, _<_}
+use mathlib.Core.List.{List}
+use lib.ListN.{getD}
+use Rattle.definitions.specs.Sequences.{sum, sameNumber}
+
+abbrev pub Element : Type 0
+Element = ℕ → ℕ
+
+abbrev pub elementOf : List ℕ → Element
+elementOf coefficients k = getD coefficients k 0
+
+unfoldable pub modulo : ℕ → Element → Element
+modulo q a k = a k % q
+
+unfoldable pub add : Element → Element → Element
+add a b k = a k + b k
+
+unfoldable pub scale : ℕ → Element → Element
+scale c a k = c * a k
+
+unfoldable pub conv : ℕ → Element → Element → Element
+conv n a b k = sum n (λ i. a i * sum n (λ j. b j * sameNumber ((i + j) % n) k))
+
+unfoldable pub one : Element
+one k = sameNumber 0 k
+
+unfoldable pub power : ℕ → Element → ℕ → Element
+power n a zero = one
+power n a (suc i) = conv n a (power n a i)
+
+abbrev pub InRing : ℕ → ℕ → Element → Type 0
+InRing q n a = (k : ℕ) → k < n → a k < q

@@ -1,0 +1,92 @@
+-- 01, "roomsheet": the text that it reads, the grammar of a line, and what it prints.
+--
+--   Text             octets; newline 10, space 32, digits 48 to 57
+--   split            the parts of a text between the separators: one more part than there are separators
+--   linesOf          the lines of a text: a newline ends each; a last line without one counts if it is not empty
+--   isNumber         a field that is a number: digits, no needless leading zero, at most 4,294,967,295
+--   decimal          the number that digits write;  decimalText: the digits of a number below 10^10
+--   wellFormed       whether a line is so many numbers with one space between, in at most 80 octets
+--   numbersOf        the numbers of a line
+--   setOf            the set that six numbers name, in the order ℓ q n dX dr mlen
+--   lineAnswer       the text printed for a line: 0, B and s, or the refusal alone; 11 where it is malformed
+--   roomsheet        the text printed for a text
+-- Assumes nothing.
+use Prim.Native.Nat.{ℕ, suc, _+_, _-_, _*_, _/_, _%_, _^_}
+use mathlib.Core.Bool.{Bool, true, false, cond, _&&_, _||_}
+use mathlib.Core.List.{List, [], _∷_, _++_, map}
+use lib.Dec.{eqb, leb}
+use lib.ListN.{length, getD}
+use Rattle.definitions.specs.Sequences.{every, howMany, tabulate, joined}
+use Rattle.definitions.specs.Refusals.{Answer, untouched, refused, accepted}
+use Rattle.definitions.specs.Parameters.{Parameters, Limits, limitsAnswer}
+
+abbrev pub Text : Type 0
+Text = List ℕ
+
+-- an octet at the front of the first of some parts
+unfoldable pub inFront : ℕ → List Text → List Text
+inFront c [] = (c ∷ []) ∷ []
+inFront c (part ∷ parts) = (c ∷ part) ∷ parts
+
+unfoldable pub split : ℕ → Text → List Text
+split separator [] = [] ∷ []
+split separator (c ∷ text) = cond (eqb c separator) ([] ∷ split separator text) (inFront c (split separator text))
+
+unfoldable pub linesOf : Text → List Text
+linesOf [] = []
+linesOf (c ∷ text) = cond (eqb c 10) ([] ∷ linesOf text) (inFront c (linesOf text))
+
+abbrev pub isDigit : ℕ → Bool
+isDigit c = leb 48 c && leb c 57
+
+-- the number that digits write after those that wrote x
+unfoldable pub decimalFrom : ℕ → Text → ℕ
+decimalFrom x [] = x
+decimalFrom x (c ∷ field) = decimalFrom (10 * x + (c - 48)) field
+
+unfoldable pub decimal : Text → ℕ
+decimal field = decimalFrom 0 field
+
+unfoldable pub isNumber : Text → Bool
+isNumber field =
+    leb 1 (length field)
+    && (every (length field) (λ i. isDigit (getD field i 0))
+    && ((eqb (length field) 1 || leb 49 (getD field 0 0)) && leb (decimal field) 4294967295))
+
+-- the digits that a number below 10^10 has: one, and one more for each of 10, 100, .. that it reaches
+unfoldable pub decimalLength : ℕ → ℕ
+decimalLength x = suc (howMany 9 (λ k. leb (10 ^ suc k) x))
+
+unfoldable pub decimalText : ℕ → Text
+decimalText x = tabulate (decimalLength x) (λ i. 48 + x / 10 ^ (decimalLength x - suc i) % 10)
+
+unfoldable pub wellFormed : ℕ → Text → Bool
+wellFormed count line =
+    leb (length line) 80
+    && (eqb (length (split 32 line)) count && every count (λ i. isNumber (getD (split 32 line) i [])))
+
+unfoldable pub numbersOf : Text → List ℕ
+numbersOf line = map decimal (split 32 line)
+
+unfoldable pub setOf : List ℕ → Parameters
+setOf numbers =
+    record {
+      l = getD numbers 0 0;
+      q = getD numbers 1 0;
+      n = getD numbers 2 0;
+      dx = getD numbers 3 0;
+      dr = getD numbers 4 0;
+      mlen = getD numbers 5 0;
+    }
+
+unfoldable pub limitsText : Answer Limits → Text
+limitsText (untouched k) = decimalText k
+limitsText (refused k) = decimalText k
+limitsText (accepted limits) =
+    decimalText 0 ++ (32 ∷ (decimalText (limits .bound) ++ (32 ∷ decimalText (limits .headroom))))
+
+unfoldable pub lineAnswer : Text → Text
+lineAnswer line = cond (wellFormed 6 line) (limitsText (limitsAnswer (setOf (numbersOf line)))) (decimalText 11)
+
+unfoldable pub roomsheet : Text → Text
+roomsheet text = joined (map (λ line. lineAnswer line ++ (10 ∷ [])) (linesOf text))
