@@ -10,4 +10,5 @@ pub mod Calls
 pub mod Conversions
 pub mod Ledger
 pub mod Roomsheet
+pub mod Demand3
 pub mod WorkedCases
