@@ -2,3 +2,4 @@
 pub mod WorkedCases
 pub mod Sums
 pub mod Congruence
+pub mod Ring
