@@ -3,3 +3,4 @@ pub mod WorkedCases
 pub mod Sums
 pub mod Congruence
 pub mod Ring
+pub mod Monomials
