@@ -4,3 +4,4 @@ pub mod Sums
 pub mod Congruence
 pub mod Ring
 pub mod Monomials
+pub mod Values
