@@ -5,3 +5,4 @@ pub mod Congruence
 pub mod Ring
 pub mod Monomials
 pub mod Values
+pub mod Noise
