@@ -6,3 +6,4 @@ pub mod Tests
 pub mod Refusals
 pub mod Parameters
 pub mod Octets
+pub mod Packing
