@@ -17,6 +17,7 @@ use lib.Count.{leadingZeros, leading-top, leading-length}
 use lib.Pow.{pow-mono, pow-add}
 use Rattle.definitions.specs.Refusals.{firstRefusal}
 use Rattle.definitions.specs.Parameters.{Parameters, smallBits, bound, headroom, rangeFits, ringFits, isDegree, degreeFits, modulusFits, messageFits, setTests, bitLength, qlen, monomialCount, smallLength, secretLength, elementsLength, publicLength, ciphertextLength, messageLength, workLength, degree}
+use Rattle.definitions.proofs.Monomials.{monomialCount-pos}
 use Rattle.definitions.proofs.Tests.{both-true, either-true}
 use Rattle.definitions.proofs.Refusals.{Numbered, firstRefusal-passed}
 
@@ -209,10 +210,6 @@ qlen-holds q h = lt-of-lt-of-le (bitLength-above q h) (qlen-bits q)
 
 -- ---- the lengths of an accepted set
 
-pub monomialCount-positive : (d : ℕ) → 1 ≤ monomialCount d
-unfolding monomialCount
-monomialCount-positive d = omega arith
-
 module _ (p : Parameters) (a : Accepted p) where
   pub modulus-positive : 0 < p .q
   modulus-positive = omega (arith, a .modulus-above)
@@ -236,11 +233,11 @@ module _ (p : Parameters) (a : Accepted p) where
 
   pub publicLength-positive : 1 ≤ publicLength p
   unfolding publicLength
-  publicLength-positive = elementsLength-positive (monomialCount (p .dx)) (monomialCount-positive (p .dx))
+  publicLength-positive = elementsLength-positive (monomialCount (p .dx)) (monomialCount-pos (p .dx))
 
   pub ciphertextLength-positive : 1 ≤ ciphertextLength p
   unfolding ciphertextLength
-  ciphertextLength-positive = elementsLength-positive (monomialCount (degree p)) (monomialCount-positive (degree p))
+  ciphertextLength-positive = elementsLength-positive (monomialCount (degree p)) (monomialCount-pos (degree p))
 
   pub workLength-positive : 1 ≤ workLength p
   unfolding workLength
