@@ -10,3 +10,4 @@ pub mod Refusals
 pub mod Parameters
 pub mod Octets
 pub mod Packing
+pub mod Draws
