@@ -6,3 +6,9 @@ pub mod Ring
 pub mod Monomials
 pub mod Values
 pub mod Noise
+pub mod Tests
+pub mod Refusals
+pub mod Parameters
+pub mod Octets
+pub mod Packing
+pub mod Draws

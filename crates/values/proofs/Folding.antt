@@ -1,8 +1,9 @@
 -- Folding keeps a polynomial's value: u_x and u_y are taken out of the terms of the highest total degree.
 -- Assumes nothing.
 use Prim.Native.Nat.{ℕ, zero, suc, _+_, _-_, _*_, _≤_, _<_}
-use native.Mathlib.Nat.{add-zero, zero-add, add-assoc, sub-self, le-refl, lt-suc-self}
-use native.Mathlib.Numerals.{add-two, add-one}
+use native.Mathlib.Nat.{add-zero, sub-self, le-refl, le-of-eq}
+use native.Mathlib.Numerals.{add-two}
+use native.Mathlib.Decide.{decLe}
 use native.Mathlib.Omega.{arith}
 use mathlib.Core.Path.{_≡_, refl, sym, _∙_, ap, ap₂}
 use mathlib.Core.Bool.{cond}
@@ -11,12 +12,13 @@ use borrow.Author.Tests.{le-leb, lt-leb, eq-eqb, ne-eqb}
 use Rattle.definitions.specs.Sequences.{sum}
 use Rattle.definitions.specs.Parameters.{monomialCount}
 use Rattle.definitions.specs.Ring.{Element, add, conv, power}
-use Rattle.definitions.specs.Monomials.{Monomial, Polynomial, monomialAt, evaluated, sumOf, valueOver, value}
+use Rattle.definitions.specs.Monomials.{Monomial, Polynomial, monomialAt, evaluated, valueOver, value}
 use Rattle.definitions.proofs.Sums.{sum-cong, sum-add, sum-zero, sum-append, sum-single}
-use Rattle.definitions.proofs.Ring.{conv-comm, conv-assoc, conv-add-left, conv-cong, conv-zero-left, conv-one}
+use Rattle.definitions.proofs.Congruence.{Cong, cong-sym, cong-trans, cong-of-eq}
+use Rattle.definitions.proofs.Ring.{conv-comm, conv-assoc, conv-add-left, conv-cong, conv-zero-left}
 use Rattle.definitions.proofs.Monomials.{monomialCount-suc, monomialCount-pos, monomialAt-first, monomialAt-rest}
-use Rattle.definitions.proofs.Values.{value-add, evaluated-one}
-use Rattle.values.specs.Folding.{carried, folded}
+use Rattle.definitions.proofs.Values.{value-cong-modulo}
+use Rattle.values.specs.Folding.{carried, folded, staged}
 
 abbrev mono : ℕ → ℕ → Monomial
 mono x y = record { x = x; y = y }
@@ -110,3 +112,32 @@ module _ (n d : ℕ) (ux uy : Element) (f : Polynomial) (k : ℕ) where
       ∙ sum-add (monomialCount d) _ _
       ∙ ap (λ (z : ℕ). sum (monomialCount d) (at (λ i. f (d + 2 + i))) + z) (sum-add (monomialCount d) (at byX) (at byY)) in
       omega (arith, split, parts, sum-x, sum-y, sum-rest)
+
+-- a slot that holds the folded term stands for the folded polynomial, modulo q
+pub staged-fold : (n q d : ℕ) (ux uy : Element) (old new : ℕ → Element) (rest : Polynomial)
+    → ((i : ℕ) → i ≤ d → (k : ℕ) → k < n
+    → Cong q (new i k) (rest (d + 2 + i) k + (conv n ux (old i) k + cond (eqb i d) (conv n uy (old (suc d)) k) 0)))
+    → (k : ℕ) → Cong q (value n (suc d) (staged (suc d) old rest) ux uy k) (value n d (staged d new (λ i. rest (d + 2 + i))) ux uy k)
+staged-fold n q d ux uy old new rest h k =
+    cong-trans (cong-of-eq (value-fold n d ux uy (staged (suc d) old rest) k)) (value-cong-modulo n d ux uy at k)
+  where
+    high : (i j : ℕ) → staged (suc d) old rest (d + 2 + i) j ≡ rest (d + 2 + i) j
+    high i j = unfold staged in rw (lt-leb (d + 2 + i) (suc d) (omega arith))
+
+    low : (i j : ℕ) → i ≤ suc d → staged (suc d) old rest i j ≡ old i j
+    low i j l = unfold staged in rw (le-leb i (suc d) l)
+
+    at : (i : ℕ) → i < monomialCount d → (j : ℕ) → j < n
+        → Cong q (folded n d ux uy (staged (suc d) old rest) i j) (staged d new (λ m. rest (d + 2 + m)) i j)
+    at i l j s =
+        elim (decLe i d) [
+          | yes le ↦ unfold folded carried staged add in
+              rw (le-leb i d le, high i j)
+              (cong-trans
+              (cong-of-eq (ap₂ (λ (a b : ℕ). rest (d + 2 + i) j + (a + b))
+              (conv-cong n (λ m u. refl) (λ m u. low i m (omega arith)) j)
+              (ap (λ (a : ℕ). cond (eqb i d) a 0) (conv-cong n (λ m u. refl) (λ m u. low (suc d) m (le-refl (suc d))) j))))
+              (cong-sym (h i le j s)))
+          | no g ↦ unfold folded carried staged add in
+              rw (lt-leb i d (omega arith), ne-eqb i d (λ e. g (le-of-eq e)), high i j) (cong-of-eq (add-zero (rest (d + 2 + i) j)))
+        ]
