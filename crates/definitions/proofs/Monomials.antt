@@ -167,7 +167,7 @@ monomials-by-degree (suc d) g =
     at m = g (totalDegree m)
 
     new : sum (d + 2) (λ i. at (monomialAt (suc d) i)) ≡ (d + 2) * g (suc d)
-    new = sum-cong (d + 2) (λ i l. ap g (rw (first d i l) (omega arith))) ∙ sum-const (d + 2) (g (suc d))
+    new = sum-cong (d + 2) (λ i l. ap g (rw (monomialAt-first d i l) (omega arith))) ∙ sum-const (d + 2) (g (suc d))
 
     old : sum (monomialCount d) (λ i. at (monomialAt (suc d) (d + 2 + i))) ≡ sum (monomialCount d) (λ i. at (monomialAt d i))
-    old = sum-cong (monomialCount d) (λ i l. ap at (rest d i))
+    old = sum-cong (monomialCount d) (λ i l. ap at (monomialAt-rest d i))
