@@ -11,3 +11,4 @@ pub mod Parameters
 pub mod Octets
 pub mod Packing
 pub mod Draws
+pub mod Roomsheet
