@@ -38,11 +38,11 @@ unfolding howMany sum
 reached-fewer n x h = rw (lt-leb (10 ^ suc n) x h) (add-zero _)
 
 -- so a number reaches the last of these and none after it
-record Reached (x h : ℕ) : Type 0 where
+record LastReached (x h : ℕ) : Type 0 where
   above : x < 10 ^ suc h
   below : 0 < h → 10 ^ h ≤ x
 
-reached-last : (n x : ℕ) → x < 10 ^ suc n → Reached x (reached n x)
+reached-last : (n x : ℕ) → x < 10 ^ suc n → LastReached x (reached n x)
 reached-last zero x h = unfold howMany sum in record { above = h; below = λ l. let z : ⊥ = omega arith in absurd z }
 reached-last (suc n) x h =
     elim (decLt x (10 ^ suc n)) [
