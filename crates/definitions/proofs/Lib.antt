@@ -12,3 +12,4 @@ pub mod Octets
 pub mod Packing
 pub mod Draws
 pub mod Roomsheet
+pub mod Noise
