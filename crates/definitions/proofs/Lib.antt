@@ -5,10 +5,11 @@ pub mod Congruence
 pub mod Ring
 pub mod Monomials
 pub mod Values
-pub mod Noise
 pub mod Tests
 pub mod Refusals
 pub mod Parameters
 pub mod Octets
 pub mod Packing
 pub mod Draws
+pub mod Roomsheet
+pub mod Noise
