@@ -7,21 +7,22 @@
 --   capped-past          once a partial bound reaches 2^31, so does B
 --   Turn                 what holds at turn k of the loop;  turn-start, turn-next: where it begins, and after a turn that stays below 2^31
 --   modulus-capped       test 4 sees no difference between B and the lesser of B and 2^31
+--   modulusFits-within   the limits of q where test 4 passes
 --   bound-uncapped       where test 4 passes, B is the lesser
---   bound-pos            B is at least 1 where ℓ is at least 2
 -- Assumes nothing.
-use Prim.Native.Nat.{ℕ, zero, suc, _+_, _-_, _*_, _^_, _≤_, _<_, min}
+use Prim.Native.Nat.{ℕ, _+_, _-_, _*_, _^_, _≤_, _<_, min}
 use native.Mathlib.Nat.{le-refl, mul-le-mul, mul-le-mul-left, mul-le-mul-right, pow-zero, pow-suc}
 use native.Mathlib.Numerals.{add-one}
 use native.Mathlib.Decide.{le-ind, decLt}
 use native.Mathlib.Omega.{arith}
 use mathlib.Core.Path.{_≡_, refl, ap, ap₂, sym, _∙_}
-use mathlib.Core.Bool.{Bool, true, false, _&&_, and-eq-true-iff}
+use mathlib.Core.Bool.{Bool, true, false, _&&_}
 use lib.Dec.{leb, ltb}
 use borrow.Author.Tests.{lt-ltb, le-ltb, leb-true, ltb-true}
 use Rattle.definitions.specs.Sequences.{sum}
-use Rattle.definitions.specs.Parameters.{Parameters, degree, termSum, bound, rangeFits, modulusFits}
-use Rattle.parameters.proofs.Bounds.{Within, rangeFits-within}
+use Rattle.definitions.specs.Parameters.{Parameters, degree, termSum, bound, modulusFits}
+use Rattle.parameters.proofs.Bounds.{Within}
+use Rattle.definitions.proofs.Tests.{both-true}
 
 pub sum-mono : (f : ℕ → ℕ) {m n : ℕ} → m ≤ n → sum m f ≤ sum n f
 unfolding sum
@@ -140,22 +141,17 @@ ltb-capped b q = go (leb q 2147483647) refl
     go true e =
         let small = leb-true q 2147483647 e in
         elim (decLt b q) [
-        yes h ↦ lt-ltb b q h ∙ sym (lt-ltb (min b 2147483648) q (omega arith))
-        | no h ↦ le-ltb b q (omega arith) ∙ sym (le-ltb (min b 2147483648) q (omega arith))
+          | yes h ↦ lt-ltb b q h ∙ sym (lt-ltb (min b 2147483648) q (omega arith))
+          | no h ↦ le-ltb b q (omega arith) ∙ sym (le-ltb (min b 2147483648) q (omega arith))
         ]
 
 pub modulus-capped : (p : Parameters) → modulusFits p ≡ (leb (p .q) 2147483647 && ltb (min (bound p) 2147483648) (p .q))
 unfolding modulusFits
 modulus-capped p = ltb-capped (bound p) (p .q)
 
-pub bound-uncapped : (p : Parameters) → modulusFits p ≡ true → min (bound p) 2147483648 ≡ bound p
+pub modulusFits-within : (p : Parameters) → modulusFits p ≡ true → (bound p < p .q) × (p .q ≤ 2147483647)
 unfolding modulusFits
-bound-uncapped p e =
-    let both = and-eq-true-iff (leb (p .q) 2147483647) (ltb (bound p) (p .q)) .0 e in
-    let small = leb-true (p .q) 2147483647 (both .0) in
-    let above = ltb-true (bound p) (p .q) (both .1) in
-    omega arith
+modulusFits-within p e = let both = both-true _ _ e in (ltb-true _ _ (both .1), leb-true _ _ (both .0))
 
-pub bound-pos : (p : Parameters) → rangeFits p ≡ true → 0 < bound p
-unfolding bound
-bound-pos p e = omega (arith, rangeFits-within p e)
+pub bound-uncapped : (p : Parameters) → modulusFits p ≡ true → min (bound p) 2147483648 ≡ bound p
+bound-uncapped p e = omega (arith, modulusFits-within p e)

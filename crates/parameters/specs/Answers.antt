@@ -5,7 +5,6 @@
 --   checkedAs        Accepted: 0 and the set; Refused: its number
 --   limitsAs         Accepted: 0, the bound and the headroom; Refused: its number
 -- Assumes nothing.
-use Prim.Native.Nat.{ℕ}
 use mathlib.Core.List.{[]}
 use Rattle.definitions.specs.Refusals.{Answer, untouched, accepted, answer}
 use Rattle.definitions.specs.Parameters.{Parameters, Limits, setTests}

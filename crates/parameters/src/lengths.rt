@@ -1,6 +1,5 @@
 // The lengths that a set fixes (01, "Ring, monomials, octets"): octets of each thing, words of work.
 use super::Parameters;
-
 ghost use mathlib.Core.Path.{_≡_};
 ghost use Prim.Native.Nat.{_≤_};
 ghost use Rattle.definitions.specs.Parameters.{smallBits, bitLength, qlen, monomialCount, smallLength, secretLength, elementsLength, publicLength, ciphertextLength, messageLength, workLength};

@@ -39,9 +39,13 @@ pub enum LimitsAnswer {
 
 impl Parameters {
     pub const N_LEAST: u32 = 2;
+
     pub const N_MOST: u32 = 4096;
+
     pub const DEGREE_LEAST: u32 = 1;
+
     pub const DEGREE_MOST: u32 = 2;
+
     pub const Q_MOST: u32 = 2147483647;
 
     pub fn new(l: u32, q: u32, n: u32, dx: u32, dr: u32, mlen: u32) -> Checked

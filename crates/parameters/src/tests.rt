@@ -1,7 +1,6 @@
 // The five tests of a set, one function each, and the noise bound that the fourth compares with.
 use super::Parameters;
 use super::lengths::bits;
-
 ghost use mathlib.Core.Path.{_≡_};
 ghost use mathlib.Core.Bool.{true, _&&_};
 ghost use Prim.Native.Nat.{_≤_, min};

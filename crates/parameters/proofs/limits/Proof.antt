@@ -1,17 +1,18 @@
 -- `limits` meets its contract: each test that passed, or the one that failed, decides the list of tests as far as it goes. Test 4 is
 -- made with the lesser of B and 2^31; where it passes, B is the lesser.
 -- Assumes nothing.
-use Prim.Native.Nat.{ℕ, _-_, _/_, _<_, min}
-use mathlib.Core.Path.{_≡_, sym, ap, ap₂, _∙_}
+use Prim.Native.Nat.{ℕ}
+use mathlib.Core.Path.{_≡_, sym, ap, _∙_}
 use mathlib.Core.Bool.{Bool, true, false, not, _&&_}
 use lib.Dec.{leb, ltb}
 use native.Mathlib.Omega.{arith}
 use borrow.Author.Needs.{needs}
 use borrow.Author.Tests.{not-true, not-false}
-use Rattle.definitions.specs.Refusals.{Answer, accepted, firstRefusal, answer}
-use Rattle.definitions.specs.Parameters.{Parameters, Limits, rangeFits, ringFits, degreeFits, modulusFits, messageFits, bound, headroom, setTests, limitsAnswer}
+use Rattle.definitions.specs.Refusals.{firstRefusal, answer}
+use Rattle.definitions.specs.Parameters.{Parameters, rangeFits, ringFits, degreeFits, modulusFits, bound, headroom, setTests, limitsAnswer}
 use Rattle.parameters.specs.Answers.{setFrom}
-use Rattle.parameters.proofs.NoiseBound.{modulus-capped, bound-uncapped, bound-pos}
+use Rattle.parameters.proofs.NoiseBound.{modulus-capped, modulusFits-within, bound-uncapped}
+use Rattle.definitions.proofs.Parameters.{bound-positive}
 use Rattle.parameters.proofs.limits.Statement.{statement}
 use Rattle.parameters.proofs.limits.Tie as tie
 
@@ -95,19 +96,30 @@ returns-5 c =
     let modulus = c .before .before in
     let degree = modulus .before .before .before in
     let ring = degree .before .before in
-    rw
-    (range-passed (ring .before .before), ring-passed ring, degree-passed degree, modulus-passed modulus,
-    failed (c .before .message-fits .ensures) (c .if5 .taken))
+    rw (
+      range-passed (ring .before .before),
+      ring-passed ring,
+      degree-passed degree,
+      modulus-passed modulus,
+      failed (c .before .message-fits .ensures) (c .if5 .taken),
+    )
 
 bound-is : (c : tie.Else4) → c .before .before .capped-bound .result ≡ bound (set-at (c .before))
 unfolding set-at
 bound-is c = c .before .before .capped-bound .ensures ∙ bound-uncapped (set-at (c .before)) (modulus-passed c)
 
 sub-t5 : tie.Need-sub-t5
-sub-t5 c = ?
+unfolding set-at
+sub-t5 c =
+    let modulus = c .before .before .before in
+    omega (arith, modulusFits-within (set-at (modulus .before)) (modulus-passed modulus))
 
 div-t6 : tie.Need-div-t6
-div-t6 c = ?
+unfolding set-at
+div-t6 c =
+    let modulus = c .before .before .before in
+    let range = modulus .before .before .before .before .before .before .before in
+    omega (arith, bound-is modulus, bound-positive _ (range-passed range))
 
 returns-6 : tie.Need-returns-6
 unfolding limitsAnswer answer firstRefusal setTests headroom set-at
@@ -115,9 +127,14 @@ returns-6 c =
     let modulus = c .before .before .before in
     let degree = modulus .before .before .before in
     let ring = degree .before .before in
-    rw
-    (range-passed (ring .before .before), ring-passed ring, degree-passed degree, modulus-passed modulus,
-    passed (c .before .before .message-fits .ensures) (c .before .if5 .left), bound-is modulus)
+    rw (
+      range-passed (ring .before .before),
+      ring-passed ring,
+      degree-passed degree,
+      modulus-passed modulus,
+      passed (c .before .before .message-fits .ensures) (c .before .if5 .left),
+      bound-is modulus,
+    )
 
 pub limits-spec : {M : Type 1} → statement M
 limits-spec =

@@ -1,21 +1,25 @@
+-- `Parameters::new` meets its contract: the set is accepted where `refusal` answers 0, and otherwise refused with its number.
+-- Assumes nothing.
+use mathlib.Core.Path.{refl, sym, _∙_}
+use mathlib.Core.List.{[]}
 use borrow.Author.Needs.{needs}
+use Rattle.definitions.specs.Refusals.{firstRefusal}
+use Rattle.definitions.proofs.Refusals.{answer-accepted}
+use Rattle.parameters.proofs.Answers.{answer-untouched-at}
+use Rattle.parameters.specs.Answers.{setAnswer}
 use Rattle.parameters.proofs.Parameters.new.Statement.{statement}
 use Rattle.parameters.proofs.Parameters.new.Tie as tie
-use Rattle.parameters.proofs.Parameters.new.Reads as reads
-use Rattle.parameters.proofs.Parameters.new.Lts as lts
-use Rattle.parameters.proofs.refusal.Reads as refusal-reads
 
--- src/lib.rt:58:13
 refusal-requires : tie.Need-refusal-requires
 refusal-requires c κs = search needs
 
--- src/lib.rt:60:13
 returns : tie.Need-returns
-returns c = ?
+unfolding setAnswer firstRefusal
+returns c = sym (answer-accepted _ [] _ (sym (c .before .refusal .ensures) ∙ c .if1 .taken) refl)
 
--- src/lib.rt:47:5
 returns-2 : tie.Need-returns-2
-returns-2 c = ?
+unfolding setAnswer
+returns-2 c = sym (answer-untouched-at _ [] _ _ (c .if1 .left) (sym (c .before .refusal .ensures)))
 
 pub new-spec : {M : Type 1} → statement M
 new-spec = tie.close (tie.spec refusal-requires returns returns-2)

@@ -6,7 +6,7 @@ use mathlib.Core.Path.{ap}
 use Prim.Native.Nat.{ℕ, _*_, _≤_}
 use native.Mathlib.Nat.{mul-le-mul}
 use Rattle.definitions.specs.Parameters.{elementsLength}
-use Rattle.parameters.proofs.Bounds.{qlen-le}
+use Rattle.definitions.proofs.Parameters.{qlen-most}
 use Rattle.parameters.proofs.lengths.elements_length.Statement.{statement}
 use Rattle.parameters.proofs.lengths.elements_length.Tie as tie
 
@@ -26,7 +26,7 @@ mul-result-2 : tie.Need-mul-result-2
 mul-result-2 c =
     let e : c .before .before .args .elements ≤ 4096 = omega arith in
     let n : c .before .before .args .p .n ≤ 4294967295 = omega arith in
-    let o : c .octets-of-coefficient .result ≤ 4 = omega (arith, qlen-le (c .before .before .args .p .q)) in
+    let o : c .octets-of-coefficient .result ≤ 4 = omega (arith, qlen-most (c .before .before .args .p .q)) in
     omega (arith, mul-le-mul (mul-le-mul e n) o)
 
 returns : tie.Need-returns

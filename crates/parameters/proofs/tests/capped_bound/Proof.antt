@@ -1,18 +1,16 @@
 -- `capped_bound` meets its contract. At turn k the sum is the bound with its first k terms, still below 2^31, and power is the power in
 -- term k: at most 61,440 times the one before, which is part of the sum. A sum that reaches 2^31 stays at or below B.
 -- Assumes nothing.
-use Prim.Native.Nat.{ℕ, _+_, _-_, _*_, _≤_, _<_}
-use mathlib.Core.Path.{_≡_, refl, sym, ap, _∙_}
-use native.Mathlib.Nat.{mul-le-mul}
+use Prim.Native.Nat.{_+_, _-_}
+use mathlib.Core.Path.{sym}
+use native.Mathlib.Nat.{le-of-lt}
 use native.Mathlib.Omega.{arith}
 use borrow.Author.Needs.{needs}
-use Rattle.parameters.specs.Answers.{setFrom}
-use Rattle.parameters.proofs.Bounds.{rangeFits-within, ringFits-within, degreeFits-within}
+use Rattle.parameters.proofs.Bounds.{Within, ringFits-within, degreeFits-within}
+use Rattle.definitions.proofs.Parameters.{range-least, range-most}
 use Rattle.parameters.proofs.NoiseBound.{Turn, turn-start, count-pow-le, added-le, factor-le, next-pow-le, turn-next, capped-past, capped-end}
 use Rattle.parameters.proofs.tests.capped_bound.Statement.{statement}
 use Rattle.parameters.proofs.tests.capped_bound.Tie as tie
-use Rattle.parameters.proofs.tests.capped_bound.Reads as reads
-use Rattle.parameters.proofs.tests.capped_bound.Lts as lts
 
 abbrev Inv-loop : tie.InvT-loop
 Inv-loop l n last sum₀ power₀ k₀ sum pow k = Turn l n last sum pow k
@@ -37,16 +35,17 @@ cast-last c =
     omega arith
 
 sub-sum : tie.Need-sub-sum Inv-loop μ-loop
-sub-sum c = omega (arith, rangeFits-within _ (c .before .before .before .pre .0))
+sub-sum c = le-of-lt (range-least _ (c .before .before .before .pre .0))
 
 sub-power : tie.Need-sub-power Inv-loop μ-loop
-sub-power c = omega (arith, rangeFits-within _ (c .before .before .before .pre .0))
+sub-power c = le-of-lt (range-least _ (c .before .before .before .pre .0))
 
 loop-holds : tie.Need-loop-holds Inv-loop μ-loop
 loop-holds c =
     let pre = c .before .before .before .pre in
     let both = degreeFits-within _ (pre .1 .1) in
-    turn-start _ _ _ (rangeFits-within _ (pre .0)) (ringFits-within _ (pre .1 .0)) (omega arith)
+    let range : Within 2 16 (c .before .before .before .args .p .l) = record { least = range-least _ (pre .0); most = range-most _ (pre .0) } in
+    turn-start _ _ _ range (ringFits-within _ (pre .1 .0)) (omega arith)
 
 add-sum : tie.Need-add-sum Inv-loop μ-loop
 add-sum c = omega arith

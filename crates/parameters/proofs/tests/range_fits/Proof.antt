@@ -14,9 +14,12 @@ returns-2 : tie.Need-returns-2
 unfolding rangeFits
 returns-2 c =
     let none = c .match .rest .1 in
-    simp
-    (ne-eqb _ _ (λ h. none (inl h)), ne-eqb _ _ (λ h. none (inr (inl h))), ne-eqb _ _ (λ h. none (inr (inr (inl h)))),
-    ne-eqb _ _ (λ h. none (inr (inr (inr h)))))
+    simp (
+      ne-eqb _ _ (λ h. none (inl h)),
+      ne-eqb _ _ (λ h. none (inr (inl h))),
+      ne-eqb _ _ (λ h. none (inr (inr (inl h)))),
+      ne-eqb _ _ (λ h. none (inr (inr (inr h)))),
+    )
 
 pub range-fits-spec : {M : Type 1} → statement M
 range-fits-spec = tie.close (tie.spec returns returns-2)
