@@ -1,2 +1,7 @@
 -- Laws of the definitions.
 pub mod WorkedCases
+pub mod Sums
+pub mod Congruence
+pub mod Tests
+pub mod Refusals
+pub mod Parameters
