@@ -5,3 +5,4 @@ pub mod Congruence
 pub mod Tests
 pub mod Refusals
 pub mod Parameters
+pub mod Calls
