@@ -6,3 +6,5 @@ pub mod Tests
 pub mod Refusals
 pub mod Parameters
 pub mod Calls
+pub mod Ring
+pub mod Monomials
