@@ -8,3 +8,4 @@ pub mod Parameters
 pub mod Calls
 pub mod Ring
 pub mod Monomials
+pub mod Octets
