@@ -5,6 +5,7 @@ pub mod Congruence
 pub mod Tests
 pub mod Refusals
 pub mod Parameters
+pub mod Elements
 pub mod Calls
 pub mod Ring
 pub mod Monomials
