@@ -10,3 +10,7 @@ pub mod Calls
 pub mod Ring
 pub mod Monomials
 pub mod Octets
+pub mod Values
+pub mod Represents
+pub mod Decryption
+pub mod Alike
