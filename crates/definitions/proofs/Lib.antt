@@ -14,3 +14,4 @@ pub mod Values
 pub mod Represents
 pub mod Decryption
 pub mod Alike
+pub mod Packing

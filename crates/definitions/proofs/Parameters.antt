@@ -10,13 +10,14 @@ use Prim.Native.Nat.{ℕ, zero, suc, _+_, _-_, _*_, _/_, _%_, _^_, _≤_, _<_}
 use mathlib.Core.Path.{_≡_, refl, sym, ap, _∙_, subst}
 use mathlib.Core.Logic.{_⊎_, inl, inr, ⊎-elim}
 use mathlib.Core.Bool.{true}
-use native.Mathlib.Nat.{div-mul-le-self, le-div-iff-mul-le, lt-of-lt-of-le, mul-pos, mul-le-mul, pow-suc}
+use native.Mathlib.Nat.{div-add-mod', div-mul-le-self, le-div-iff-mul-le, lt-of-lt-of-le, mul-pos, mul-le-mul, pow-suc}
 use native.Mathlib.Omega.{arith}
 use borrow.Author.Tests.{eqb-true, leb-true, ltb-true, not-false, eq-eqb, le-leb, lt-ltb}
 use lib.Count.{leadingZeros, leading-top, leading-length}
 use lib.Pow.{pow-mono, pow-add}
 use Rattle.definitions.specs.Refusals.{firstRefusal}
-use Rattle.definitions.specs.Parameters.{Parameters, smallBits, bound, headroom, rangeFits, ringFits, isDegree, degreeFits, modulusFits, messageFits, setTests, bitLength, qlen, monomialCount, smallLength, secretLength, elementsLength, publicLength, ciphertextLength, workLength, degree}
+use Rattle.definitions.specs.Parameters.{Parameters, smallBits, bound, headroom, rangeFits, ringFits, isDegree, degreeFits, modulusFits, messageFits, setTests, bitLength, qlen, monomialCount, smallLength, secretLength, elementsLength, publicLength, ciphertextLength, messageLength, workLength, degree}
+use Rattle.definitions.proofs.Monomials.{monomialCount-pos}
 use Rattle.definitions.proofs.Tests.{both-true, either-true}
 use Rattle.definitions.proofs.Refusals.{Numbered, firstRefusal-passed}
 
@@ -209,10 +210,6 @@ qlen-holds q h = lt-of-lt-of-le (bitLength-above q h) (qlen-bits q)
 
 -- ---- the lengths of an accepted set
 
-pub monomialCount-positive : (d : ℕ) → 1 ≤ monomialCount d
-unfolding monomialCount
-monomialCount-positive d = omega arith
-
 module _ (p : Parameters) (a : Accepted p) where
   pub modulus-positive : 0 < p .q
   modulus-positive = omega (arith, a .modulus-above)
@@ -236,12 +233,25 @@ module _ (p : Parameters) (a : Accepted p) where
 
   pub publicLength-positive : 1 ≤ publicLength p
   unfolding publicLength
-  publicLength-positive = elementsLength-positive (monomialCount (p .dx)) (monomialCount-positive (p .dx))
+  publicLength-positive = elementsLength-positive (monomialCount (p .dx)) (monomialCount-pos (p .dx))
 
   pub ciphertextLength-positive : 1 ≤ ciphertextLength p
   unfolding ciphertextLength
-  ciphertextLength-positive = elementsLength-positive (monomialCount (degree p)) (monomialCount-positive (degree p))
+  ciphertextLength-positive = elementsLength-positive (monomialCount (degree p)) (monomialCount-pos (degree p))
 
   pub workLength-positive : 1 ≤ workLength p
   unfolding workLength
   workLength-positive = omega (arith, a .ring-least)
+
+  -- a message is whole coefficients
+  pub message-coefficients : p .mlen / smallBits (p .l) * smallBits (p .l) ≡ p .mlen
+  message-coefficients = omega (arith, div-add-mod' (p .mlen) (smallBits (p .l)), a .message-multiple)
+
+-- the octets of a small element and of a message have room for their bits
+pub smallLength-room : (p : Parameters) → p .n * smallBits (p .l) ≤ 8 * smallLength p
+unfolding smallLength
+smallLength-room p = omega arith
+
+pub messageLength-room : (p : Parameters) → p .mlen ≤ 8 * messageLength p
+unfolding messageLength
+messageLength-room p = omega arith
