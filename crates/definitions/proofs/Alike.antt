@@ -29,7 +29,7 @@ module _ (p : Parameters) (public secret : List ℕ) (z : Zero p public secret) 
   values-alike : (k : ℕ) → Cong (p .q) (at (polynomialFrom p (degree p) c) k) (at (polynomialFrom p (degree p) d) k)
   values-alike k =
       cong-trans (value-cong-modulo (p .n) (degree p) (secretX p secret) (secretY p secret) differs-congruent k)
-      (cong-trans (cong-of-eq (value-add (p .n) (degree p) (polynomialFrom p (degree p) d) _ _ multiple k))
+      (cong-trans (cong-of-eq (value-add (p .n) (degree p) (polynomialFrom p (degree p) d) multiple _ _ k))
       (cong-trans (cong-add cong-refl (product-vanishes (p .q) (p .n) (p .dx) (p .dr) _ r _ _ (z .vanishes) k)) (cong-of-eq (omega arith))))
 
   decrypted-alike : (k : ℕ) → k < p .n → decryptedFrom p secret c k ≡ decryptedFrom p secret d k

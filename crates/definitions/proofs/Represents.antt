@@ -59,7 +59,7 @@ module _ {n q l d β : ℕ} {c : Polynomial} {ux uy m : Element} where
       record {
         whole = λ k. r .whole k + t .whole k;
         small = λ k s. add-le-add (r .small k s) (t .small k s);
-        valued = λ k s. cong-trans (cong-add (r .valued k s) (t .valued k s)) (cong-of-eq (sym (value-add n d c ux uy f k)));
+        valued = λ k s. cong-trans (cong-add (r .valued k s) (t .valued k s)) (cong-of-eq (sym (value-add n d c f ux uy k)));
         message = λ k s. cong-add (r .message k s) (t .message k s);
       }
 
@@ -84,10 +84,10 @@ module _ (p : Parameters) (key r e : Polynomial) (m ux uy : Element) (zero : Van
   parts : (k : ℕ) → k < p .n → at unreduced k ≡ m k + at masking k + p .l * at e k
   parts k s =
       rw (
-        value-add (p .n) (degree p) (sumOf (constantTerm (degree p) m) masking) ux uy noise k,
-        value-add (p .n) (degree p) (constantTerm (degree p) m) ux uy masking k,
+        value-add (p .n) (degree p) (sumOf (constantTerm (degree p) m) masking) noise ux uy k,
+        value-add (p .n) (degree p) (constantTerm (degree p) m) masking ux uy k,
         value-constantTerm (p .n) (degree p) m ux uy s,
-        value-scale (p .n) (degree p) e ux uy (p .l) k,
+        value-scale (p .n) (degree p) (p .l) e ux uy k,
       )
 
   masked : (k : ℕ) → Cong (p .q) (m k + at masking k + p .l * at e k) (m k + p .l * at e k)
