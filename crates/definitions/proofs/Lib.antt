@@ -12,6 +12,8 @@ pub mod Monomials
 pub mod Octets
 pub mod Values
 pub mod Represents
+pub mod Small
+pub mod Zeros
 pub mod Decryption
 pub mod Alike
 pub mod Packing
