@@ -17,3 +17,4 @@ pub mod Zeros
 pub mod Decryption
 pub mod Alike
 pub mod Packing
+pub mod Noise
