@@ -15,6 +15,8 @@ pub mod Represents
 pub mod Small
 pub mod Zeros
 pub mod Decryption
+pub mod Kept
+pub mod Ledger
 pub mod Alike
 pub mod Packing
 pub mod Noise

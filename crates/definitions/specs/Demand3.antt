@@ -83,9 +83,9 @@ pub record EntryHolds (p : Parameters) (public ciphertext : List ℕ) (entry : E
 abbrev pub LedgerHolds : Type 0
 LedgerHolds =
     (p : Parameters) → AcceptedSet p → (public : List ℕ) (calls : List Call) → Legal p public [] calls →
-    (length (givenBy p public [] calls) ≡ length (ledger p (events p public [] calls)))
-    × ((i : ℕ) → i < length (givenBy p public [] calls) →
-    EntryHolds p public (getD (givenBy p public [] calls) i []) (getD (ledger p (events p public [] calls)) i noEntry))
+    (length (givenBy p [] calls) ≡ length (ledger p (events p [] calls)))
+    × ((i : ℕ) → i < length (givenBy p [] calls) →
+    EntryHolds p public (getD (givenBy p [] calls) i []) (getD (ledger p (events p [] calls)) i noEntry))
 
 -- c is d plus the key times r, over R_q; r is any polynomial of degree dr, each coefficient any whole number that stands for it modulo q
 abbrev pub DiffersBy : Parameters → List ℕ → Polynomial → List ℕ → List ℕ → Type 0
