@@ -1,22 +1,29 @@
 -- 01, "Draws from lent random octets" (keys, sealing, opening, adding, zero test) with "Refusal table": the answer of every call.
 --
+--   01's form is a ciphertext; its r is the mask here and its e the noise.
+--
 --   smallOf          the small element packed in some octets
 --   secretX, secretY u_x and u_y of a secret's octets
 --   polynomialFrom   the polynomial over R_q in some octets
 --   octetsFrom       the octets of a polynomial
+--   decodedElements  the coefficients of so many elements from octets
 --   secretPadded     whether both halves of a secret have zero in their unused bits
 --   elementsFit      whether each of so many elements' coefficients is below q
+--   lengthTests      the tests up to the length test
+--   keyDraws         the elements drawn for a key;  keyConstant, keyPairOf: its constant, and the octets of both keys
+--   maskDraws        the elements drawn for r;  noiseOf: those of e;  encryptedWith: m + X × r + ℓ × e
+--   decryptedValue   w;  decryptedElement: w modulo ℓ;  tailClear: the tail test;  messageOf: the octets of a message
 --   ..Answer         keygenAnswer (01: key making), isZeroAnswer (zero test), encryptAnswer (sealing), addAnswer (adding),
 --                    decryptAnswer (opening): the answer, from the octets given and the lengths of the buffers lent
 --   ..Exit           the same with every output and the work words at exit, from what they held before
 --
 -- Each answer is two ordered lists of tests, up to the length test and after it, and the values that are given where no test applies.
 -- Assumes nothing.
-use Prim.Native.Nat.{ℕ, suc, _+_, _-_, _*_, _%_}
+use Prim.Native.Nat.{ℕ, _+_, _-_, _*_, _%_}
 use mathlib.Core.Bool.{Bool, cond, _&&_, _||_, not}
 use mathlib.Core.List.{List, [], _∷_, _++_}
 use lib.Dec.{eqb, ltb}
-use lib.ListN.{length, getD, take, drop}
+use lib.ListN.{length, take, drop}
 use Rattle.definitions.specs.Sequences.{every, tabulate}
 use Rattle.definitions.specs.Refusals.{Test, refuse, Answer, answer, number, output, workAtExit}
 use Rattle.definitions.specs.Parameters.{Parameters, degree, smallBits, setTests, qlen, monomialCount, smallLength, secretLength, publicLength, ciphertextLength, messageLength, workLength}
@@ -245,8 +252,8 @@ pub record AddExit : Type 0 where
 
 unfoldable pub addExit : Parameters → List ℕ → List ℕ → List ℕ → AddExit
 addExit p a b sum =
-    let answer = addAnswer p a b (length sum) in
-    record { refusal = number answer; sum = output (λ c. c) answer sum }
+    let given = addAnswer p a b (length sum) in
+    record { refusal = number given; sum = output (λ c. c) given sum }
 
 pub record DecryptExit : Type 0 where
   pub refusal : ℕ
