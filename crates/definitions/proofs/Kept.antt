@@ -104,16 +104,16 @@ module _ (p : Parameters) (a : Accepted p) where
         let f : Polynomial = encryptedWith p key (smallOf p message) r noise in
         let below : InRings (p .q) (p .n) (monomialCount (degree p)) f = encryptedWith-below key (smallOf p message) r noise _ in
         let kept : Kept p public (octetsFrom p (degree p) f) (record { count = 1; places = smallOf p message }) =
-            record {
-              counted = le-refl 1;
-              well-formed = octetsFrom-formed f below;
-              tail = smallOf-tail p message (p .mlen) (told .padded);
-              represents = λ secret zero.
-                  represents-congruent (octetsFrom-congruent f below)
-                  (rw (one-mul (bound p))
-                  (represents-encrypted p key r noise (smallOf p message) (secretX p secret) (secretY p secret) (zero-told p public secret zero .vanishes)
-                  (smallOf-below p a message) (λ k l. noise-bounded secret (drop (maskLength p random) random) k)));
-            } in
+        record {
+          counted = le-refl 1;
+          well-formed = octetsFrom-formed f below;
+          tail = smallOf-tail p message (p .mlen) (told .padded);
+          represents = λ secret zero.
+              represents-congruent (octetsFrom-congruent f below)
+              (rw (one-mul (bound p))
+              (represents-encrypted p key r noise (smallOf p message) (secretX p secret) (secretY p secret) (zero-told p public secret zero .vanishes)
+              (smallOf-below p a message) (λ k l. noise-bounded secret (drop (maskLength p random) random) k)));
+        } in
         rw (told .encrypted) at kept
 
     pub kept-added : (b c d : List ℕ) (x y : Entry) → AddTold p b c d → Kept p public b x → Kept p public c y → Kept p public d (entrySum x y)
@@ -122,13 +122,13 @@ module _ (p : Parameters) (a : Accepted p) where
         let f : Polynomial = sumModulo p (polynomialFrom p (degree p) b) (polynomialFrom p (degree p) c) in
         let below : InRings (p .q) (p .n) (monomialCount (degree p)) f = sumModulo-below _ _ _ in
         let kept : Kept p public (octetsFrom p (degree p) f) (entrySum x y) =
-            record {
-              counted = omega (arith, kb .counted);
-              well-formed = octetsFrom-formed f below;
-              tail = λ k past. rw (kb .tail k past, kc .tail k past);
-              represents = λ secret zero.
-                  represents-congruent (octetsFrom-congruent f below)
-                  (represents-congruent (sumModulo-congruent _ _)
-                  (rw (add-mul (x .count) (y .count) (bound p)) (represents-add (kb .represents secret zero) (kc .represents secret zero))));
-            } in
+        record {
+          counted = omega (arith, kb .counted);
+          well-formed = octetsFrom-formed f below;
+          tail = λ k past. rw (kb .tail k past, kc .tail k past);
+          represents = λ secret zero.
+              represents-congruent (octetsFrom-congruent f below)
+              (represents-congruent (sumModulo-congruent _ _)
+              (rw (add-mul (x .count) (y .count) (bound p)) (represents-add (kb .represents secret zero) (kc .represents secret zero))));
+        } in
         rw (told .added) at kept

@@ -10,7 +10,7 @@ use lib.Seq.{getD-at}
 use Rattle.definitions.specs.Refusals.{Answer, untouched, refused, accepted, output}
 use Rattle.definitions.specs.Parameters.{Parameters}
 use Rattle.definitions.specs.Calls.{Encrypted, encryptAnswer}
-use Rattle.definitions.specs.Ledger.{Operand, given, other, Call, encrypt, addition, Given, operandOf, ciphertextAnswer, callAnswer, givenAfter, givenBy, nothing, eventOf, events, Entry, noEntry, entryAfter, ledgerFrom, ledger, FromList, LentFromList, LegalCall, Legal}
+use Rattle.definitions.specs.Ledger.{Operand, given, other, Call, encrypt, addition, Given, operandOf, ciphertextAnswer, callAnswer, givenAfter, givenBy, nothing, eventOf, events, Entry, noEntry, entryAfter, ledgerFrom, ledger, FromList, FromListUnder, LegalCall, Legal}
 use Rattle.definitions.specs.Demand3.{AcceptedSet, LedgerHolds}
 use Rattle.definitions.proofs.Parameters.{accepted-set}
 use Rattle.definitions.proofs.Calls.{encrypt-told, add-told}
@@ -43,20 +43,20 @@ module _ (p : Parameters) (set : AcceptedSet p) (public : List ℕ) where
       }
 
   module _ (state : Given) (entries : List Entry) (h : AllKept p public state entries) where
-    allKept-accepted : (call : Call) (c : List ℕ) → callAnswer p public state call ≡ accepted c → LentFromList state call
+    allKept-accepted : (call : Call) (c : List ℕ) → callAnswer p state call ≡ accepted c → FromListUnder public state call
         → AllKept p public (state ++ (c ∷ [])) (entryAfter p entries (eventOf call))
-    unfolding callAnswer operandOf LentFromList FromList entryAfter eventOf
-    allKept-accepted (encrypt message random ciphertextLen workLen) c e legal =
-        let (encrypted, told, same) = ciphertext-of (encryptAnswer p public message random ciphertextLen workLen) c e in
+    unfolding callAnswer operandOf FromListUnder FromList entryAfter eventOf
+    allKept-accepted (encrypt key message random ciphertextLen workLen) c e legal =
+        let (encrypted, told, same) = ciphertext-of (encryptAnswer p key message random ciphertextLen workLen) c e in
         allKept-append state entries c _ h
-        (rw same at (kept-encrypted p (accepted-set p set) public message random encrypted (encrypt-told p public message random ciphertextLen workLen encrypted told)))
+        (rw (same, legal) at (kept-encrypted p (accepted-set p set) key message random encrypted (encrypt-told p key message random ciphertextLen workLen encrypted told)))
     allKept-accepted (addition (given i) (given j) sumLen) c e legal =
         allKept-append state entries c _ h
         (kept-added p (accepted-set p set) public (getD state i []) (getD state j []) c _ _ (add-told p _ _ sumLen c e) (h .kept i (legal .0)) (h .kept j (legal .1)))
     allKept-accepted (addition (given i) (other b) sumLen) c e legal = absurd (legal .1)
     allKept-accepted (addition (other b) d sumLen) c e legal = absurd (legal .0)
 
-    allKept-call : (call : Call) (answered : Answer (List ℕ)) → callAnswer p public state call ≡ answered → LegalCall state call answered
+    allKept-call : (call : Call) (answered : Answer (List ℕ)) → callAnswer p state call ≡ answered → LegalCall public state call answered
         → AllKept p public (output (λ c. state ++ (c ∷ [])) answered state) (entryAfter p entries (output (λ c. eventOf call) answered nothing))
     unfolding LegalCall entryAfter
     allKept-call call (untouched k) e legal = h
@@ -64,11 +64,11 @@ module _ (p : Parameters) (set : AcceptedSet p) (public : List ℕ) where
     allKept-call call (accepted c) e legal = allKept-accepted call c e legal
 
   allKept-calls : (calls : List Call) (state : Given) (entries : List Entry) → AllKept p public state entries → Legal p public state calls
-      → AllKept p public (givenBy p public state calls) (ledgerFrom p entries (events p public state calls))
+      → AllKept p public (givenBy p state calls) (ledgerFrom p entries (events p state calls))
   unfolding givenBy givenAfter ledgerFrom events Legal
   allKept-calls [] state entries h legal = h
   allKept-calls (call ∷ calls) state entries h legal =
-      allKept-calls calls _ _ (allKept-call state entries h call (callAnswer p public state call) refl (legal .0)) (legal .1)
+      allKept-calls calls _ _ (allKept-call state entries h call (callAnswer p state call) refl (legal .0)) (legal .1)
 
 pub ledger-holds : LedgerHolds
 unfolding ledger
