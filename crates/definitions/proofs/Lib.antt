@@ -20,3 +20,4 @@ pub mod Ledger
 pub mod Alike
 pub mod Packing
 pub mod Noise
+pub mod Draws
