@@ -1,6 +1,6 @@
 -- Why two ciphertexts that differ by a multiple of the key decrypt alike: at a zero of the key the multiple is zero, so their values are one modulo q.
 -- Assumes nothing.
-use Prim.Native.Nat.{ℕ, _+_, _%_, _<_}
+use Prim.Native.Nat.{ℕ, _%_, _<_}
 use mathlib.Core.Path.{_≡_, ap}
 use mathlib.Core.List.{List}
 use native.Mathlib.Omega.{arith}

@@ -5,20 +5,21 @@
 --   Zero              what the zero test's yes says, a field for each test;  zero-told, zero-of: that it does
 --   ..Told            what an accepted call says, a field for each test and for its output
 -- Assumes nothing.
-use Prim.Native.Nat.{ℕ, _*_, _%_, _<_, _≤_}
-use mathlib.Core.Path.{_≡_, refl, sym, ap, _∙_}
-use mathlib.Core.Bool.{Bool, true, false, cond, _&&_, not}
-use mathlib.Core.List.{List, [], _∷_}
+use Prim.Native.Nat.{ℕ, _%_, _<_}
+use mathlib.Core.Path.{_≡_, refl, ap}
+use mathlib.Core.Bool.{Bool, true, false, cond, not}
+use mathlib.Core.List.{List}
 use native.Mathlib.Omega.{arith}
-use borrow.Author.Tests.{eqb-true, ltb-false, not-false, eq-eqb}
-use lib.Dec.{eqb}
+use borrow.Author.Tests.{eqb-true, not-false, eq-eqb}
+use lib.Dec.{ltb}
 use lib.ListN.{length, drop}
-use Rattle.definitions.specs.Refusals.{Test, refuse, firstRefusal, Answer, untouched, accepted, answer}
-use Rattle.definitions.specs.Parameters.{Parameters, degree, setTests, monomialCount, secretLength, publicLength, ciphertextLength, messageLength, workLength}
+use Rattle.definitions.specs.Refusals.{Test, firstRefusal, untouched, accepted, answer}
+use Rattle.definitions.specs.Parameters.{Parameters, degree, setTests, monomialCount, smallLength, secretLength, publicLength, messageLength, workLength}
 use Rattle.definitions.specs.Ring.{modulo}
 use Rattle.definitions.specs.Monomials.{polynomialOf, value}
 use Rattle.definitions.specs.Octets.{paddingClear}
-use Rattle.definitions.specs.Calls.{KeyPair, Encrypted, smallOf, secretX, secretY, polynomialFrom, octetsFrom, secretPadded, elementsFit, lengthTests, isZeroAt, isZeroAnswer, maskDraws, noiseOf, encryptedWith, maskLength, encryptUsed, encryptAnswer, sumModulo, addAnswer}
+use Rattle.definitions.specs.Draws.{secretDrawn}
+use Rattle.definitions.specs.Calls.{KeyPair, Encrypted, smallOf, secretX, secretY, polynomialFrom, octetsFrom, secretPadded, elementsFit, lengthTests, keyDraws, keyPairOf, keygenAnswer, isZeroAt, isZeroAnswer, maskDraws, noiseOf, encryptedWith, maskLength, encryptAnswer, sumModulo, addAnswer}
 use Rattle.definitions.specs.Demand3.{AcceptedSet, ZeroOf}
 use Rattle.definitions.proofs.Sums.{every-true, every-at}
 use Rattle.definitions.proofs.Tests.{both-true, neither-true}
@@ -85,6 +86,25 @@ zero-of p public secret z =
       every-true (p .n) (λ k l. eq-eqb _ 0 (z .vanishes k l)),
     )
     (answer-exact p (z .set) true _ true refl)
+
+-- ---- key generation
+
+pub record KeygenTold (p : Parameters) (random : List ℕ) (keys : KeyPair) : Type 0 where
+  pub set : AcceptedSet p
+  pub enough : keyDraws p random .enough ≡ true
+  pub made : keyPairOf p (secretDrawn p random) (secretDrawn p (drop (smallLength p) random)) (keyDraws p random) ≡ keys
+
+pub keygen-told : (p : Parameters) (random : List ℕ) (secretLen publicLen workLen : ℕ) (keys : KeyPair)
+    → keygenAnswer p random secretLen publicLen workLen ≡ accepted keys → KeygenTold p random keys
+unfolding keygenAnswer
+keygen-told p random secretLen publicLen workLen keys given =
+    let told = answer-accepted-only _ _ _ keys given in
+    let exhausted = firstRefusal-passed 9 _ _ (omega arith) (told .1) in
+    record {
+      set = lengthTests-passed p _ (told .0) .0;
+      enough = not-false _ (neither-true (ltb (length random) (secretLength p)) (not (keyDraws p random .enough)) (exhausted .0) .1);
+      made = told .2;
+    }
 
 -- ---- encryption
 

@@ -5,8 +5,8 @@
 --   decrypts-alike                   two ciphertexts with the same decrypted coefficients have one answer
 --   decrypts-to                      decrypted coefficients that are a ledger entry's, modulo ℓ, give DecryptsTo
 -- Assumes nothing.
-use Prim.Native.Nat.{ℕ, zero, suc, _*_, _%_, _≤_, _<_}
-use mathlib.Core.Path.{_≡_, refl, sym, ap, ap₂, _∙_}
+use Prim.Native.Nat.{ℕ, zero, suc, _*_, _≤_, _<_}
+use mathlib.Core.Path.{_≡_, refl, ap, ap₂}
 use mathlib.Core.Bool.{Bool, true, _&&_, _||_}
 use mathlib.Core.List.{List}
 use native.Mathlib.Nat.{le-step, lt-suc-self, zero-mod}

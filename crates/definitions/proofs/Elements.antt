@@ -4,21 +4,21 @@
 --   coefficientsOf-..     the coefficients of a polynomial, end to end
 --   octetsFrom-..         the octets of a polynomial: their length, that they fit, and what they read back as
 -- Assumes nothing.
-use Prim.Native.Nat.{ℕ, _+_, _*_, _/_, _%_, _^_, _<_}
-use mathlib.Core.Path.{_≡_, refl, sym, ap, ap₂, _∙_}
+use Prim.Native.Nat.{ℕ, _*_, _/_, _%_, _<_}
+use mathlib.Core.Path.{_≡_, ap, ap₂, _∙_}
 use mathlib.Core.Bool.{true}
 use mathlib.Core.List.{List}
 use native.Mathlib.Nat.{mod-lt, lt-trans, div-lt-iff-lt-mul}
 use native.Mathlib.Omega.{arith}
 use lib.Arith.{digits-lt, digits-div, digits-mod}
-use lib.ListN.{length, getD}
+use lib.ListN.{length}
 use Rattle.definitions.specs.Parameters.{Parameters, qlen, monomialCount, elementsLength}
 use Rattle.definitions.specs.Ring.{InRing}
 use Rattle.definitions.specs.Monomials.{Polynomial, polynomialOf, coefficientsOf}
-use Rattle.definitions.specs.Octets.{coefficientsFit, encoded}
+use Rattle.definitions.specs.Octets.{encoded}
 use Rattle.definitions.specs.Calls.{decodedElements, polynomialFrom, octetsFrom, elementsFit}
 use Rattle.definitions.proofs.Sums.{length-tabulate, getD-tabulate}
-use Rattle.definitions.proofs.Octets.{AllBelow, length-encoded, decoded-encoded, coefficientsFit-below, coefficientsFit-true, length-decoded}
+use Rattle.definitions.proofs.Octets.{AllBelow, length-encoded, decoded-encoded, coefficientsFit-true}
 use Rattle.definitions.proofs.Parameters.{Accepted, modulus-word, qlen-holds}
 
 abbrev pub InRings : ℕ → ℕ → ℕ → Polynomial → Type 0

@@ -4,8 +4,8 @@
 --   kept-encrypted   of an accepted encryption;  kept-added: of an accepted addition
 --   kept-holds       and that is enough for demand 3
 -- Assumes nothing.
-use Prim.Native.Nat.{ℕ, _+_, _-_, _*_, _%_, _≤_, _<_}
-use mathlib.Core.Path.{_≡_, refl, sym, ap, _∙_}
+use Prim.Native.Nat.{ℕ, _-_, _*_, _≤_}
+use mathlib.Core.Path.{_≡_, sym}
 use mathlib.Core.List.{List}
 use native.Mathlib.Nat.{mod-lt, one-mul, add-mul, le-refl}
 use native.Mathlib.Omega.{arith}
@@ -16,14 +16,14 @@ use Rattle.definitions.specs.Monomials.{Polynomial, polynomialOf, sumOf,
 use Rattle.definitions.specs.Draws.{noiseDrawn}
 use Rattle.definitions.specs.Calls.{Encrypted, smallOf, secretX, secretY, polynomialFrom, octetsFrom, maskDraws, noiseOf, encryptedWith, maskLength, sumModulo, decryptedValue, decryptedElement, decryptedFrom}
 use Rattle.definitions.specs.Ledger.{Entry, entrySum}
-use Rattle.definitions.specs.Demand3.{AcceptedSet, ZeroOf, WellFormed, EntryHolds}
+use Rattle.definitions.specs.Demand3.{ZeroOf, WellFormed, EntryHolds}
 use Rattle.definitions.proofs.Congruence.{cong-sym, cong-of-eq, cong-mod}
 use Rattle.definitions.proofs.Ring.{AtMost}
 use Rattle.definitions.proofs.Noise.{noise-le}
-use Rattle.definitions.proofs.Parameters.{Accepted, accepted-set, modulus-positive}
+use Rattle.definitions.proofs.Parameters.{Accepted, modulus-positive}
 use Rattle.definitions.proofs.Elements.{InRings, octetsFrom-length, octetsFrom-fits, polynomialFrom-octetsFrom}
 use Rattle.definitions.proofs.Small.{smallOf-tail, unpacked-small, smallOf-below}
-use Rattle.definitions.proofs.Calls.{Zero, zero-told, EncryptTold, AddTold}
+use Rattle.definitions.proofs.Calls.{zero-told, EncryptTold, AddTold}
 use Rattle.definitions.proofs.Represents.{Represents, CongAt, represents-congruent, represents-decrypts, represents-add, represents-encrypted}
 use Rattle.definitions.proofs.Decryption.{decrypts-to}
 

@@ -1,7 +1,7 @@
 -- Why demand 3 holds of every list of calls: each accepted call adds one ciphertext and its entry, of which Kept holds, and a refused call adds neither.
 -- Assumes nothing.
 use Prim.Native.Nat.{ℕ, _<_}
-use mathlib.Core.Path.{_≡_, refl, ap, _∙_}
+use mathlib.Core.Path.{_≡_, refl}
 use mathlib.Core.List.{List, [], _∷_, _++_}
 use native.Mathlib.Omega.{arith}
 use native.Mathlib.Decide.{decLt}
@@ -10,7 +10,7 @@ use lib.Seq.{getD-at}
 use Rattle.definitions.specs.Refusals.{Answer, untouched, refused, accepted, output}
 use Rattle.definitions.specs.Parameters.{Parameters}
 use Rattle.definitions.specs.Calls.{Encrypted, encryptAnswer}
-use Rattle.definitions.specs.Ledger.{Operand, given, other, Call, encrypt, addition, Given, operandOf, ciphertextAnswer, callAnswer, givenAfter, givenBy, nothing, eventOf, events, Entry, noEntry, entryAfter, ledgerFrom, ledger, FromList, FromListUnder, LegalCall, Legal}
+use Rattle.definitions.specs.Ledger.{given, other, Call, encrypt, addition, Given, operandOf, ciphertextAnswer, callAnswer, givenAfter, givenBy, nothing, eventOf, events, Entry, noEntry, entryAfter, ledgerFrom, ledger, FromList, FromListUnder, LegalCall, Legal}
 use Rattle.definitions.specs.Demand3.{AcceptedSet, LedgerHolds}
 use Rattle.definitions.proofs.Parameters.{accepted-set}
 use Rattle.definitions.proofs.Calls.{encrypt-told, add-told}

@@ -14,6 +14,7 @@ pub mod Values
 pub mod Represents
 pub mod Small
 pub mod Zeros
+pub mod MadeKeys
 pub mod Decryption
 pub mod Kept
 pub mod Ledger

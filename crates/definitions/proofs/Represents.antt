@@ -4,14 +4,14 @@
 --   represents-..    an encryption has them (m + ℓ × e(u_x, u_y), at most B), a sum has the sums, and below q they decrypt
 --
 -- Degree and bound are parameters, and nothing here knows of a list of calls. Assumes nothing.
-use Prim.Native.Nat.{ℕ, _+_, _-_, _*_, _%_, _≤_, _<_}
+use Prim.Native.Nat.{ℕ, _+_, _*_, _%_, _≤_, _<_}
 use mathlib.Core.Path.{_≡_, refl, sym, ap, _∙_}
-use native.Mathlib.Nat.{add-mul-mod-self-left, mod-eq-of-lt, mul-le-mul-left, add-le-add, le-trans, zero-mod, lt-of-le-of-lt}
+use native.Mathlib.Nat.{add-mul-mod-self-left, mod-eq-of-lt, mul-le-mul-left, add-le-add, zero-mod, lt-of-le-of-lt}
 use native.Mathlib.Omega.{arith}
 use Rattle.definitions.specs.Parameters.{Parameters, degree, termSum, bound, monomialCount}
-use Rattle.definitions.specs.Ring.{Element, modulo, add, scale, conv, InRing}
+use Rattle.definitions.specs.Ring.{Element, modulo, add, scale, InRing}
 use Rattle.definitions.specs.Monomials.{Polynomial, constantTerm, sumOf, productOf, value}
-use Rattle.definitions.specs.Calls.{encryptedWith, sumModulo}
+use Rattle.definitions.specs.Calls.{encryptedWith}
 use Rattle.definitions.proofs.Congruence.{Cong, cong-refl, cong-sym, cong-trans, cong-of-eq, cong-mod, cong-add}
 use Rattle.definitions.proofs.Ring.{conv-cong-modulo, conv-zero-left}
 use Rattle.definitions.proofs.Values.{value-add, value-scale, value-constantTerm, value-mul, value-cong-modulo}

@@ -4,19 +4,18 @@
 --   unpacked-element              a packed element reads back
 --   secretOf-..                   a secret put together from two elements: its length, its padding, and the two read back
 -- Assumes nothing.
-use Prim.Native.Nat.{ℕ, _+_, _*_, _^_, _≤_, _<_}
-use mathlib.Core.Path.{_≡_, refl, sym, ap, ap₂, _∙_}
-use mathlib.Core.Bool.{true, _&&_}
-use mathlib.Core.List.{List, _++_}
+use Prim.Native.Nat.{ℕ, _+_, _*_, _≤_}
+use mathlib.Core.Path.{_≡_, ap₂, _∙_}
+use mathlib.Core.Bool.{true}
+use mathlib.Core.List.{List}
 use native.Mathlib.Omega.{arith}
-use lib.ListN.{length, getD, take, drop, length-append}
+use lib.ListN.{length, take, drop, length-append}
 use lib.Seq.{take-at, drop-at}
 use Rattle.definitions.specs.Parameters.{Parameters, smallBits, smallLength, secretLength}
 use Rattle.definitions.specs.Ring.{elementOf, InRing}
 use Rattle.definitions.specs.Octets.{unpacked, packed, paddingClear}
 use Rattle.definitions.specs.Calls.{smallOf, secretX, secretY, secretPadded}
 use Rattle.definitions.specs.Demand3.{secretOf, InSmallRing}
-use Rattle.definitions.proofs.Octets.{AllBelow}
 use Rattle.definitions.proofs.Packing.{length-unpacked, length-packed, unpacked-below, unpacked-packed, paddingClear-packed, unpacked-tail}
 use Rattle.definitions.proofs.Parameters.{Accepted, smallBits-least, smallBits-power}
 

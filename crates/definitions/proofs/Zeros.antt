@@ -1,13 +1,12 @@
 -- Why the zero test finds every small zero: the octets of a pair pass its tests and read back as the pair, so only the value is left to test.
 -- Assumes nothing.
-use Prim.Native.Nat.{ℕ, _%_, _<_}
+use Prim.Native.Nat.{ℕ}
 use mathlib.Core.Path.{_≡_}
 use mathlib.Core.Bool.{true}
 use mathlib.Core.List.{List}
 use lib.ListN.{length}
 use Rattle.definitions.specs.Parameters.{Parameters, monomialCount, publicLength}
 use Rattle.definitions.specs.Ring.{elementOf}
-use Rattle.definitions.specs.Monomials.{value}
 use Rattle.definitions.specs.Calls.{polynomialFrom, elementsFit}
 use Rattle.definitions.specs.Demand3.{AcceptedSet, ZeroOf, InSmallRing, secretOf, SmallZeros}
 use Rattle.definitions.proofs.Parameters.{accepted-set}
