@@ -2,6 +2,9 @@
 pub mod WorkedCases
 pub mod Sums
 pub mod Congruence
+pub mod Ring
+pub mod Monomials
+pub mod Values
 pub mod Tests
 pub mod Refusals
 pub mod Parameters
@@ -22,3 +25,5 @@ pub mod Alike
 pub mod Packing
 pub mod Noise
 pub mod Draws
+pub mod Roomsheet
+pub mod Noise
