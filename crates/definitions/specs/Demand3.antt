@@ -11,15 +11,17 @@
 -- Assumes nothing.
 use Prim.Native.Nat.{ℕ, _+_, _*_, _≤_, _<_, _%_}
 use mathlib.Core.Path.{_≡_}
+use mathlib.Core.Logic.{_↔_}
 use mathlib.Core.Bool.{true, cond, _&&_}
-use mathlib.Core.List.{List, []}
+use mathlib.Core.List.{List, [], _++_}
 use lib.Dec.{eqb}
 use lib.ListN.{length, getD}
 use Rattle.definitions.specs.Refusals.{firstRefusal, Answer, untouched, accepted}
-use Rattle.definitions.specs.Parameters.{Parameters, degree, smallBits, bound, setTests, monomialCount, ciphertextLength, messageLength, workLength}
-use Rattle.definitions.specs.Ring.{Element, modulo}
-use Rattle.definitions.specs.Monomials.{Polynomial, productOf}
-use Rattle.definitions.specs.Calls.{KeyPair, polynomialFrom, elementsFit, keygenAnswer, isZeroAnswer, messageOf, decryptAnswer}
+use Rattle.definitions.specs.Parameters.{Parameters, degree, smallBits, bound, setTests, monomialCount, smallLength, publicLength, ciphertextLength, messageLength, workLength}
+use Rattle.definitions.specs.Ring.{Element, elementOf, modulo, InRing}
+use Rattle.definitions.specs.Monomials.{Polynomial, productOf, value}
+use Rattle.definitions.specs.Octets.{packed}
+use Rattle.definitions.specs.Calls.{KeyPair, secretX, secretY, polynomialFrom, elementsFit, keygenAnswer, isZeroAnswer, messageOf, decryptAnswer}
 use Rattle.definitions.specs.Ledger.{Call, Entry, noEntry, givenBy, events, ledger, Legal}
 
 abbrev pub AcceptedSet : Parameters → Type 0
@@ -27,6 +29,15 @@ AcceptedSet p = firstRefusal (setTests p) ≡ 0
 
 abbrev pub ZeroOf : Parameters → List ℕ → List ℕ → Type 0
 ZeroOf p public secret = isZeroAnswer p secret public (workLength p) ≡ accepted true
+
+-- coefficients of an element of R_ℓ, as a list (01: small)
+pub record InSmallRing (p : Parameters) (coefficients : List ℕ) : Type 0 where
+  pub sized : length coefficients ≡ p .n
+  pub below : InRing (p .l) (p .n) (elementOf coefficients)
+
+-- the octets of the secret u_x, u_y
+abbrev pub secretOf : Parameters → List ℕ → List ℕ → List ℕ
+secretOf p ux uy = packed (smallBits (p .l)) (smallLength p) ux ++ packed (smallBits (p .l)) (smallLength p) uy
 
 pub record WellFormed (p : Parameters) (ciphertext : List ℕ) : Type 0 where
   pub exact : length ciphertext ≡ ciphertextLength p
@@ -47,6 +58,20 @@ MadeKeys =
     (p : Parameters) (random : List ℕ) (secretLen publicLen workLen : ℕ) (keys : KeyPair) →
     keygenAnswer p random secretLen publicLen workLen ≡ accepted keys →
     ZeroOf p (keys .public) (keys .secret)
+
+-- a small secret (01): its octets are those of u_x and u_y, and it is a zero of the key just where the key's value there is 0 in R_q
+pub record SmallZero (p : Parameters) (public ux uy : List ℕ) : Type 0 where
+  pub read-x : secretX p (secretOf p ux uy) ≡ elementOf ux
+  pub read-y : secretY p (secretOf p ux uy) ≡ elementOf uy
+  pub tested :
+      ((k : ℕ) → k < p .n → value (p .n) (p .dx) (polynomialFrom p (p .dx) public) (elementOf ux) (elementOf uy) k % p .q ≡ 0)
+      ↔ ZeroOf p public (secretOf p ux uy)
+
+abbrev pub SmallZeros : Type 0
+SmallZeros =
+    (p : Parameters) → AcceptedSet p →
+    (public : List ℕ) → length public ≡ publicLength p → elementsFit p (monomialCount (p .dx)) public ≡ true →
+    (ux uy : List ℕ) → InSmallRing p ux → InSmallRing p uy → SmallZero p public ux uy
 
 pub record EntryHolds (p : Parameters) (public ciphertext : List ℕ) (entry : Entry) : Type 0 where
   pub counted : 1 ≤ entry .count
