@@ -23,3 +23,4 @@ pub mod MadeKeys
 pub mod Kept
 pub mod Ledger
 pub mod Alike
+pub mod Corollaries

@@ -11,4 +11,5 @@ pub mod Conversions
 pub mod Ledger
 pub mod Roomsheet
 pub mod Demand3
+pub mod Corollaries
 pub mod WorkedCases
