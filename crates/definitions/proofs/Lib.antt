@@ -24,3 +24,4 @@ pub mod Kept
 pub mod Ledger
 pub mod Alike
 pub mod Corollaries
+pub mod Witness

@@ -13,3 +13,4 @@ pub mod Roomsheet
 pub mod Demand3
 pub mod Corollaries
 pub mod WorkedCases
+pub mod Witness
