@@ -7,7 +7,7 @@
 use Prim.Native.Nat.{ℕ, _-_, _*_, _≤_}
 use mathlib.Core.Path.{_≡_, sym}
 use mathlib.Core.List.{List}
-use native.Mathlib.Nat.{mod-lt, one-mul, add-mul, le-refl}
+use native.Mathlib.Nat.{mod-lt, le-refl}
 use native.Mathlib.Omega.{arith}
 use lib.ListN.{take, drop}
 use Rattle.definitions.specs.Parameters.{Parameters, degree, smallBits, termSum, bound, monomialCount, smallLength, ciphertextLength}
@@ -24,7 +24,7 @@ use Rattle.definitions.proofs.Parameters.{Accepted, modulus-positive}
 use Rattle.definitions.proofs.Elements.{InRings, octetsFrom-length, octetsFrom-fits, polynomialFrom-octetsFrom}
 use Rattle.definitions.proofs.Small.{smallOf-tail, unpacked-small, smallOf-below}
 use Rattle.definitions.proofs.Calls.{zero-told, EncryptTold, AddTold}
-use Rattle.definitions.proofs.Represents.{Represents, CongAt, represents-congruent, represents-decrypts, represents-add, represents-encrypted}
+use Rattle.definitions.proofs.Represents.{Represents, CongAt, represents-congruent, represents-weaken, represents-decrypts, represents-add, represents-encrypted}
 use Rattle.definitions.proofs.Decryption.{decrypts-to}
 
 pub record Kept (p : Parameters) (public c : List ℕ) (entry : Entry) : Type 0 where
@@ -95,40 +95,39 @@ module _ (p : Parameters) (a : Accepted p) where
   sumModulo-congruent f g i l k s = cong-sym (cong-mod (p .q) (sumOf f g i k))
 
   module _ (public : List ℕ) where
+    -- the octets of a polynomial over R_q that represents an entry
+    kept-octets : (f : Polynomial) (entry : Entry) (c : List ℕ) → octetsFrom p (degree p) f ≡ c → InRings (p .q) (p .n) (monomialCount (degree p)) f
+        → 1 ≤ entry .count → ((k : ℕ) → p .mlen ≤ k * smallBits (p .l) → entry .places k ≡ 0)
+        → ((secret : List ℕ) → ZeroOf p public secret →
+        Represents (p .n) (p .q) (p .l) (degree p) (entry .count * bound p) f (secretX p secret) (secretY p secret) (entry .places))
+        → Kept p public c entry
+    kept-octets f entry c e below counted tail represents =
+        rw (← e)
+        (record {
+          counted = counted;
+          well-formed = octetsFrom-formed f below;
+          tail = tail;
+          represents = λ secret zero. represents-congruent (octetsFrom-congruent f below) (represents secret zero);
+        })
+
     pub kept-encrypted : (message random : List ℕ) (e : Encrypted) → EncryptTold p public message random e
         → Kept p public (e .ciphertext) (record { count = 1; places = smallOf p message })
     kept-encrypted message random e told =
         let key : Polynomial = polynomialFrom p (p .dx) public in
         let r : Polynomial = polynomialOf (p .n) (maskDraws p random .values) in
-        let noise : Polynomial = noiseOf p (drop (maskLength p random) random) in
-        let f : Polynomial = encryptedWith p key (smallOf p message) r noise in
-        let below : InRings (p .q) (p .n) (monomialCount (degree p)) f = encryptedWith-below key (smallOf p message) r noise _ in
-        let kept : Kept p public (octetsFrom p (degree p) f) (record { count = 1; places = smallOf p message }) =
-        record {
-          counted = le-refl 1;
-          well-formed = octetsFrom-formed f below;
-          tail = smallOf-tail p message (p .mlen) (told .padded);
-          represents = λ secret zero.
-              represents-congruent (octetsFrom-congruent f below)
-              (rw (one-mul (bound p))
-              (represents-encrypted p key r noise (smallOf p message) (secretX p secret) (secretY p secret) (zero-told p public secret zero .vanishes)
-              (smallOf-below p a message) (λ k l. noise-bounded secret (drop (maskLength p random) random) k)));
-        } in
-        rw (told .encrypted) at kept
+        let later : List ℕ = drop (maskLength p random) random in
+        kept-octets _ _ (e .ciphertext) (told .encrypted) (encryptedWith-below key (smallOf p message) r (noiseOf p later) _) (le-refl 1)
+        (smallOf-tail p message (p .mlen) (told .padded))
+        (λ secret zero.
+        represents-weaken (omega arith)
+        (represents-encrypted p key r (noiseOf p later) (smallOf p message) (secretX p secret) (secretY p secret)
+        (zero-told p public secret zero .vanishes) (smallOf-below p a message) (λ k l. noise-bounded secret later k)))
 
     pub kept-added : (b c d : List ℕ) (x y : Entry) → AddTold p b c d → Kept p public b x → Kept p public c y → Kept p public d (entrySum x y)
     unfolding add
     kept-added b c d x y told kb kc =
-        let f : Polynomial = sumModulo p (polynomialFrom p (degree p) b) (polynomialFrom p (degree p) c) in
-        let below : InRings (p .q) (p .n) (monomialCount (degree p)) f = sumModulo-below _ _ _ in
-        let kept : Kept p public (octetsFrom p (degree p) f) (entrySum x y) =
-        record {
-          counted = omega (arith, kb .counted);
-          well-formed = octetsFrom-formed f below;
-          tail = λ k past. rw (kb .tail k past, kc .tail k past);
-          represents = λ secret zero.
-              represents-congruent (octetsFrom-congruent f below)
-              (represents-congruent (sumModulo-congruent _ _)
-              (rw (add-mul (x .count) (y .count) (bound p)) (represents-add (kb .represents secret zero) (kc .represents secret zero))));
-        } in
-        rw (told .added) at kept
+        kept-octets _ (entrySum x y) d (told .added) (sumModulo-below _ _ _) (omega (arith, kb .counted))
+        (λ k past. omega (arith, kb .tail k past, kc .tail k past))
+        (λ secret zero.
+        represents-weaken (omega arith)
+        (represents-congruent (sumModulo-congruent _ _) (represents-add (kb .represents secret zero) (kc .represents secret zero))))
