@@ -5,15 +5,15 @@
 --   decrypts-alike                   two ciphertexts with the same decrypted coefficients have one answer
 --   decrypts-to                      decrypted coefficients that are a ledger entry's, modulo ℓ, give DecryptsTo
 -- Assumes nothing.
-use Prim.Native.Nat.{ℕ, zero, suc, _*_, _≤_, _<_}
-use mathlib.Core.Path.{_≡_, refl, ap, ap₂}
-use mathlib.Core.Bool.{Bool, true, _&&_, _||_}
+use Prim.Native.Nat.{ℕ, zero, suc, _*_, _%_, _≤_, _<_}
+use mathlib.Core.Path.{_≡_, refl, ap₂}
+use mathlib.Core.Bool.{Bool, true, false, _&&_, _||_}
 use mathlib.Core.List.{List}
 use native.Mathlib.Nat.{le-step, lt-suc-self, zero-mod}
 use native.Mathlib.Omega.{arith}
 use native.Mathlib.Decide.{decLt}
-use borrow.Author.Tests.{eq-eqb, lt-ltb, le-ltb}
-use lib.Dec.{eqb, ltb}
+use borrow.Author.Tests.{eq-eqb, lt-ltb}
+use lib.Dec.{eqb}
 use lib.ListN.{length}
 use Rattle.definitions.specs.Sequences.{every}
 use Rattle.definitions.specs.Refusals.{firstRefusal}
@@ -29,10 +29,17 @@ unfolding every
 every-cong zero h = refl
 every-cong (suc n) h = ap₂ _&&_ (every-cong n (λ k l. h k (le-step l))) (h n (lt-suc-self n))
 
+either-first : (a b : Bool) → a ≡ true → (a || b) ≡ true
+either-first a b e = rw e
+
+either-second : (a b : Bool) → b ≡ true → (a || b) ≡ true
+either-second true b e = refl
+either-second false b e = e
+
 module _ (p : Parameters) {a b : Element} (same : (k : ℕ) → k < p .n → a k ≡ b k) where
   pub tailClear-cong : tailClear p a ≡ tailClear p b
   unfolding tailClear
-  tailClear-cong = every-cong (p .n) (λ k l. ap (λ (x : ℕ). ltb (k * smallBits (p .l)) (p .mlen) || eqb x 0) (same k l))
+  tailClear-cong = every-cong (p .n) (λ k l. rw (same k l))
 
   pub messageOf-cong : messageOf p a ≡ messageOf p b
   unfolding messageOf
@@ -44,9 +51,8 @@ unfolding tailClear modulo
 tailClear-true p m tail =
     every-true (p .n) (λ k l.
     elim (decLt (k * smallBits (p .l)) (p .mlen)) [
-      | yes s ↦ rw (lt-ltb _ _ s)
-      | no s ↦ let past : p .mlen ≤ k * smallBits (p .l) = omega arith in
-          rw (le-ltb (k * smallBits (p .l)) (p .mlen) past, tail k past, zero-mod (p .l))
+      | yes s ↦ either-first _ _ (lt-ltb (k * smallBits (p .l)) (p .mlen) s)
+      | no s ↦ either-second _ _ (eq-eqb (m k % p .l) 0 (rw (tail k (omega arith)) (zero-mod (p .l))))
     ])
 
 pub decrypts-alike : (p : Parameters) (secret c d : List ℕ) → WellFormed p c → WellFormed p d
