@@ -13,7 +13,7 @@ use native.Mathlib.Nat.{le-step, lt-suc-self, zero-mod}
 use native.Mathlib.Omega.{arith}
 use native.Mathlib.Decide.{decLt}
 use borrow.Author.Tests.{eq-eqb, lt-ltb}
-use lib.Dec.{eqb}
+use lib.Dec.{eqb, ltb}
 use lib.ListN.{length}
 use Rattle.definitions.specs.Sequences.{every}
 use Rattle.definitions.specs.Refusals.{firstRefusal}
@@ -52,7 +52,7 @@ tailClear-true p m tail =
     every-true (p .n) (λ k l.
     elim (decLt (k * smallBits (p .l)) (p .mlen)) [
       | yes s ↦ either-first _ _ (lt-ltb (k * smallBits (p .l)) (p .mlen) s)
-      | no s ↦ either-second _ _ (eq-eqb (m k % p .l) 0 (rw (tail k (omega arith)) (zero-mod (p .l))))
+      | no s ↦ either-second (ltb (k * smallBits (p .l)) (p .mlen)) _ (eq-eqb (m k % p .l) 0 (rw (tail k (omega arith)) (zero-mod (p .l))))
     ])
 
 pub decrypts-alike : (p : Parameters) (secret c d : List ℕ) → WellFormed p c → WellFormed p d
