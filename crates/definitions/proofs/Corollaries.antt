@@ -1,6 +1,6 @@
 -- Why the corollaries hold: a fresh ciphertext has count 1 and B is below q; packing loses no coefficient below ℓ; a made key's secret is a zero.
 -- Assumes nothing.
-use Prim.Native.Nat.{ℕ, _+_, _*_, _/_, _≤_, _<_}
+use Prim.Native.Nat.{ℕ, _+_, _*_, _/_, _<_}
 use mathlib.Core.Path.{_≡_, refl, ap, _∙_}
 use mathlib.Core.Bool.{true}
 use mathlib.Core.List.{List}
@@ -15,7 +15,7 @@ use Rattle.definitions.specs.Parameters.{Parameters, smallBits, bound, m
 use Rattle.definitions.specs.Ring.{Element, modulo, InRing}
 use Rattle.definitions.specs.Octets.{unpacked, paddingClear}
 use Rattle.definitions.specs.Calls.{smallOf, messageOf, decryptAnswer}
-use Rattle.definitions.specs.Demand3.{DecryptsTo}
+use Rattle.definitions.specs.Demand3.{ZeroPastMessage, DecryptsTo}
 use Rattle.definitions.specs.Corollaries.{AllOctets, Fresh, Headroom, Totals, OwnSecret}
 use Rattle.definitions.proofs.Sums.{length-tabulate, getD-tabulate, tabulate-getD}
 use Rattle.definitions.proofs.Parameters.{Accepted, accepted-set, modulus-positive, bound-positive, smallBits-least, smallBits-power, headroom-fits, headroom-largest}
@@ -50,7 +50,7 @@ module _ (p : Parameters) (a : Accepted p) where
   whole : p .mlen / smallBits (p .l) * smallBits (p .l) ≡ p .mlen
   whole = omega (arith, div-add-mod (p .mlen) (smallBits (p .l)), a .message-multiple)
 
-  module _ (places : Element) (small : InRing (p .l) (p .n) places) (tail : (k : ℕ) → p .mlen ≤ k * smallBits (p .l) → places k ≡ 0) where
+  module _ (places : Element) (small : InRing (p .l) (p .n) places) (tail : ZeroPastMessage p places) where
     zeros : ZeroFrom (p .mlen / smallBits (p .l)) (tabulate (p .n) places)
     zeros k past =
         elim (decLt k (p .n)) [

@@ -5,7 +5,7 @@
 --   decrypts-alike                   two ciphertexts with the same decrypted coefficients have one answer
 --   decrypts-to                      decrypted coefficients that are a ledger entry's, modulo ℓ, give DecryptsTo
 -- Assumes nothing.
-use Prim.Native.Nat.{ℕ, zero, suc, _*_, _%_, _≤_, _<_}
+use Prim.Native.Nat.{ℕ, zero, suc, _*_, _%_, _<_}
 use mathlib.Core.Path.{_≡_, refl, ap₂}
 use mathlib.Core.Bool.{Bool, true, false, _&&_, _||_}
 use mathlib.Core.List.{List}
@@ -20,7 +20,7 @@ use Rattle.definitions.specs.Refusals.{firstRefusal}
 use Rattle.definitions.specs.Parameters.{Parameters, smallBits, secretLength, ciphertextLength, messageLength, workLength}
 use Rattle.definitions.specs.Ring.{Element, modulo}
 use Rattle.definitions.specs.Calls.{tailClear, messageOf, decryptedFrom, decryptAnswer}
-use Rattle.definitions.specs.Demand3.{WellFormed, DecryptsTo}
+use Rattle.definitions.specs.Demand3.{WellFormed, ZeroPastMessage, DecryptsTo}
 use Rattle.definitions.proofs.Sums.{every-true, tabulate-cong}
 use Rattle.definitions.proofs.Calls.{Zero, answer-exact}
 
@@ -46,7 +46,7 @@ module _ (p : Parameters) {a b : Element} (same : (k : ℕ) → k < p .n → a k
   messageOf-cong = rw (tabulate-cong (p .n) same)
 
 -- whole numbers that are zero past mlen have a clear tail modulo ℓ
-pub tailClear-true : (p : Parameters) (m : Element) → ((k : ℕ) → p .mlen ≤ k * smallBits (p .l) → m k ≡ 0) → tailClear p (modulo (p .l) m) ≡ true
+pub tailClear-true : (p : Parameters) (m : Element) → ZeroPastMessage p m → tailClear p (modulo (p .l) m) ≡ true
 unfolding tailClear modulo
 tailClear-true p m tail =
     every-true (p .n) (λ k l.
@@ -69,8 +69,7 @@ decrypts-alike p secret c d wc wd same messageLen workLen =
       messageOf-cong p {a = decryptedFrom p secret c} {b = decryptedFrom p secret d} same,
     )
 
-pub decrypts-to : (p : Parameters) (public secret c : List ℕ) (places : Element) → Zero p public secret → WellFormed p c
-    → ((k : ℕ) → p .mlen ≤ k * smallBits (p .l) → places k ≡ 0)
+pub decrypts-to : (p : Parameters) (public secret c : List ℕ) (places : Element) → Zero p public secret → WellFormed p c → ZeroPastMessage p places
     → ((k : ℕ) → k < p .n → decryptedFrom p secret c k ≡ modulo (p .l) places k)
     → DecryptsTo p secret c places
 unfolding decryptAnswer firstRefusal

@@ -1,5 +1,6 @@
 -- Why each ciphertext of a list decrypts to its entry: an encryption stands for its message with one bound, and a sum for the sum with the sum of bounds.
 --
+--   RepresentsEntry  a polynomial represents an entry with its count's bound, at every zero of the key
 --   Kept             what holds of a ciphertext and its entry, whatever call gave it
 --   kept-encrypted   of an accepted encryption;  kept-added: of an accepted addition
 --   kept-holds       and that is enough for demand 3
@@ -10,13 +11,13 @@ use mathlib.Core.List.{List}
 use native.Mathlib.Nat.{mod-lt, le-refl}
 use native.Mathlib.Omega.{arith}
 use lib.ListN.{take, drop}
-use Rattle.definitions.specs.Parameters.{Parameters, degree, smallBits, termSum, bound, monomialCount, smallLength, ciphertextLength}
+use Rattle.definitions.specs.Parameters.{Parameters, degree, termSum, bound, monomialCount, smallLength, ciphertextLength}
 use Rattle.definitions.specs.Ring.{Element, modulo, add, InRing}
 use Rattle.definitions.specs.Monomials.{Polynomial, polynomialOf, sumOf, value}
 use Rattle.definitions.specs.Draws.{noiseDrawn}
 use Rattle.definitions.specs.Calls.{Encrypted, smallOf, secretX, secretY, polynomialFrom, octetsFrom, maskDraws, noiseOf, encryptedWith, maskLength, sumModulo, decryptedValue, decryptedElement, decryptedFrom}
 use Rattle.definitions.specs.Ledger.{Entry, entrySum}
-use Rattle.definitions.specs.Demand3.{ZeroOf, WellFormed, EntryHolds}
+use Rattle.definitions.specs.Demand3.{ZeroOf, WellFormed, ZeroPastMessage, EntryHolds}
 use Rattle.definitions.proofs.Congruence.{cong-sym, cong-of-eq, cong-mod}
 use Rattle.definitions.proofs.Ring.{AtMost}
 use Rattle.definitions.proofs.Noise.{noise-le}
@@ -27,13 +28,17 @@ use Rattle.definitions.proofs.Calls.{zero-told, EncryptTold, AddTold}
 use Rattle.definitions.proofs.Represents.{Represents, CongAt, represents-congruent, represents-weaken, represents-decrypts, represents-add, represents-encrypted}
 use Rattle.definitions.proofs.Decryption.{decrypts-to}
 
+-- a polynomial represents an entry at every zero of the key
+abbrev pub RepresentsEntry : Parameters → List ℕ → Polynomial → Entry → Type 0
+RepresentsEntry p public f entry =
+    (secret : List ℕ) → ZeroOf p public secret →
+    Represents (p .n) (p .q) (p .l) (degree p) (entry .count * bound p) f (secretX p secret) (secretY p secret) (entry .places)
+
 pub record Kept (p : Parameters) (public c : List ℕ) (entry : Entry) : Type 0 where
   pub counted : 1 ≤ entry .count
   pub well-formed : WellFormed p c
-  pub tail : (k : ℕ) → p .mlen ≤ k * smallBits (p .l) → entry .places k ≡ 0
-  pub represents :
-      (secret : List ℕ) → ZeroOf p public secret →
-      Represents (p .n) (p .q) (p .l) (degree p) (entry .count * bound p) (polynomialFrom p (degree p) c) (secretX p secret) (secretY p secret) (entry .places)
+  pub tail : ZeroPastMessage p (entry .places)
+  pub represents : RepresentsEntry p public (polynomialFrom p (degree p) c) entry
 
 pub kept-holds : (p : Parameters) (public c : List ℕ) (entry : Entry) → Kept p public c entry → EntryHolds p public c entry
 unfolding decryptedFrom decryptedElement decryptedValue modulo
@@ -97,9 +102,7 @@ module _ (p : Parameters) (a : Accepted p) where
   module _ (public : List ℕ) where
     -- the octets of a polynomial over R_q that represents an entry
     kept-octets : (f : Polynomial) (entry : Entry) (c : List ℕ) → octetsFrom p (degree p) f ≡ c → InRings (p .q) (p .n) (monomialCount (degree p)) f
-        → 1 ≤ entry .count → ((k : ℕ) → p .mlen ≤ k * smallBits (p .l) → entry .places k ≡ 0)
-        → ((secret : List ℕ) → ZeroOf p public secret →
-        Represents (p .n) (p .q) (p .l) (degree p) (entry .count * bound p) f (secretX p secret) (secretY p secret) (entry .places))
+        → 1 ≤ entry .count → ZeroPastMessage p (entry .places) → RepresentsEntry p public f entry
         → Kept p public c entry
     kept-octets f entry c e below counted tail represents =
         rw (← e)
