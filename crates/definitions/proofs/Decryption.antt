@@ -5,36 +5,24 @@
 --   decrypts-alike                   two ciphertexts with the same decrypted coefficients have one answer
 --   decrypts-to                      decrypted coefficients that are a ledger entry's, modulo ℓ, give DecryptsTo
 -- Assumes nothing.
-use Prim.Native.Nat.{ℕ, zero, suc, _*_, _%_, _<_}
-use mathlib.Core.Path.{_≡_, refl, ap₂}
-use mathlib.Core.Bool.{Bool, true, false, _&&_, _||_}
+use Prim.Native.Nat.{ℕ, _*_, _%_, _<_}
+use mathlib.Core.Path.{_≡_, refl}
+use mathlib.Core.Bool.{true, _&&_}
 use mathlib.Core.List.{List}
-use native.Mathlib.Nat.{le-step, lt-suc-self, zero-mod}
+use native.Mathlib.Nat.{zero-mod}
 use native.Mathlib.Omega.{arith}
 use native.Mathlib.Decide.{decLt}
 use borrow.Author.Tests.{eq-eqb, lt-ltb}
 use lib.Dec.{eqb, ltb}
 use lib.ListN.{length}
-use Rattle.definitions.specs.Sequences.{every}
 use Rattle.definitions.specs.Refusals.{firstRefusal}
 use Rattle.definitions.specs.Parameters.{Parameters, smallBits, secretLength, ciphertextLength, messageLength, workLength}
 use Rattle.definitions.specs.Ring.{Element, modulo}
 use Rattle.definitions.specs.Calls.{tailClear, messageOf, decryptedFrom, decryptAnswer}
 use Rattle.definitions.specs.Demand3.{WellFormed, ZeroPastMessage, DecryptsTo}
-use Rattle.definitions.proofs.Sums.{every-true, tabulate-cong}
+use Rattle.definitions.proofs.Sums.{every-true, every-cong, tabulate-cong}
+use Rattle.definitions.proofs.Tests.{either-first, either-second}
 use Rattle.definitions.proofs.Calls.{Zero, answer-exact}
-
-pub every-cong : (n : ℕ) {f g : ℕ → Bool} → ((k : ℕ) → k < n → f k ≡ g k) → every n f ≡ every n g
-unfolding every
-every-cong zero h = refl
-every-cong (suc n) h = ap₂ _&&_ (every-cong n (λ k l. h k (le-step l))) (h n (lt-suc-self n))
-
-either-first : (a b : Bool) → a ≡ true → (a || b) ≡ true
-either-first a b e = rw e
-
-either-second : (a b : Bool) → b ≡ true → (a || b) ≡ true
-either-second true b e = refl
-either-second false b e = e
 
 module _ (p : Parameters) {a b : Element} (same : (k : ℕ) → k < p .n → a k ≡ b k) where
   pub tailClear-cong : tailClear p a ≡ tailClear p b
