@@ -1,7 +1,7 @@
 -- Why two ciphertexts that differ by a multiple of the key decrypt alike: at a zero of the key the multiple is zero, so their values are one modulo q.
 -- Assumes nothing.
-use Prim.Native.Nat.{ℕ, _%_, _<_}
-use mathlib.Core.Path.{_≡_, ap}
+use Prim.Native.Nat.{ℕ, _<_}
+use mathlib.Core.Path.{_≡_}
 use mathlib.Core.List.{List}
 use native.Mathlib.Omega.{arith}
 use Rattle.definitions.specs.Parameters.{Parameters, degree}
@@ -34,7 +34,7 @@ module _ (p : Parameters) (public secret : List ℕ) (z : Zero p public secret) 
 
   decrypted-alike : (k : ℕ) → k < p .n → decryptedFrom p secret c k ≡ decryptedFrom p secret d k
   unfolding decryptedFrom decryptedElement decryptedValue modulo
-  decrypted-alike k l = ap (λ (x : ℕ). x % p .l) (values-alike k .same)
+  decrypted-alike k l = rw (values-alike k .same)
 
 pub alike : Alike
 alike p set public secret zero c d wc wd r differs =

@@ -9,9 +9,8 @@ use Prim.Native.Nat.{ℕ, _%_, _<_}
 use mathlib.Core.Path.{_≡_, refl, ap}
 use mathlib.Core.Bool.{Bool, true, false, cond, not}
 use mathlib.Core.List.{List}
-use native.Mathlib.Omega.{arith}
 use borrow.Author.Tests.{eqb-true, not-false, eq-eqb}
-use lib.Dec.{ltb}
+use lib.Dec.{ltb, lit<}
 use lib.ListN.{length, drop}
 use Rattle.definitions.specs.Refusals.{Test, firstRefusal, untouched, accepted, answer}
 use Rattle.definitions.specs.Parameters.{Parameters, degree, setTests, monomialCount, smallLength, secretLength, publicLength, messageLength, workLength}
@@ -37,7 +36,7 @@ pub lengthTests-passed : (p : Parameters) (exact : Bool) → firstRefusal (lengt
 unfolding lengthTests
 lengthTests-passed p exact e =
     let both = firstRefusal-append-passed (setTests p) _ (setTests-numbered p) e in
-    (both .0, not-false exact (firstRefusal-passed 6 _ _ (omega arith) (both .1) .0))
+    (both .0, not-false exact (firstRefusal-passed 6 _ _ (lit< tt) (both .1) .0))
 
 pub answer-exact : {A : Type 0} (p : Parameters) → AcceptedSet p → (exact : Bool) (later : List Test) (a : A) → firstRefusal later ≡ 0
     → answer (lengthTests p exact) later a ≡ cond exact (accepted a) (untouched 6)
@@ -63,8 +62,8 @@ zero-told p public secret e =
     let first = lengthTests-passed p _ (told .0) in
     let lengths = both-true _ _ (first .1) in
     let rest = both-true _ _ (lengths .1) in
-    let padding = firstRefusal-passed 7 _ _ (omega arith) (told .1) in
-    let fitting = firstRefusal-passed 8 _ _ (omega arith) (padding .1) in
+    let padding = firstRefusal-passed 7 _ _ (lit< tt) (told .1) in
+    let fitting = firstRefusal-passed 8 _ _ (lit< tt) (padding .1) in
     record {
       set = first .0;
       secret-exact = eqb-true _ _ (lengths .0);
@@ -99,7 +98,7 @@ pub keygen-told : (p : Parameters) (random : List ℕ) (secretLen publicLen work
 unfolding keygenAnswer
 keygen-told p random secretLen publicLen workLen keys given =
     let told = answer-accepted-only _ _ _ keys given in
-    let exhausted = firstRefusal-passed 9 _ _ (omega arith) (told .1) in
+    let exhausted = firstRefusal-passed 9 _ _ (lit< tt) (told .1) in
     record {
       set = lengthTests-passed p _ (told .0) .0;
       enough = not-false _ (neither-true (ltb (length random) (secretLength p)) (not (keyDraws p random .enough)) (exhausted .0) .1);
@@ -128,8 +127,8 @@ encrypt-told p public message random ciphertextLen workLen e given =
     let first = lengthTests-passed p _ (told .0) in
     let lengths = both-true _ _ (first .1) in
     let rest = both-true _ _ (lengths .1) in
-    let padding = firstRefusal-passed 7 _ _ (omega arith) (told .1) in
-    let fitting = firstRefusal-passed 8 _ _ (omega arith) (padding .1) in
+    let padding = firstRefusal-passed 7 _ _ (lit< tt) (told .1) in
+    let fitting = firstRefusal-passed 8 _ _ (lit< tt) (padding .1) in
     record {
       set = first .0;
       public-exact = eqb-true _ _ (lengths .0);
@@ -151,7 +150,7 @@ pub add-told : (p : Parameters) (a b : List ℕ) (sumLen : ℕ) (c : List ℕ) �
 unfolding addAnswer
 add-told p a b sumLen c given =
     let told = answer-accepted-only _ _ _ c given in
-    let fitting = both-true _ _ (not-false _ (firstRefusal-passed 8 _ _ (omega arith) (told .1) .0)) in
+    let fitting = both-true _ _ (not-false _ (firstRefusal-passed 8 _ _ (lit< tt) (told .1) .0)) in
     record {
       set = lengthTests-passed p _ (told .0) .0;
       left-fits = fitting .0;

@@ -5,48 +5,42 @@
 --   decrypts-alike                   two ciphertexts with the same decrypted coefficients have one answer
 --   decrypts-to                      decrypted coefficients that are a ledger entry's, modulo ℓ, give DecryptsTo
 -- Assumes nothing.
-use Prim.Native.Nat.{ℕ, zero, suc, _*_, _≤_, _<_}
-use mathlib.Core.Path.{_≡_, refl, ap, ap₂}
-use mathlib.Core.Bool.{Bool, true, _&&_, _||_}
+use Prim.Native.Nat.{ℕ, _*_, _%_, _<_}
+use mathlib.Core.Path.{_≡_, refl}
+use mathlib.Core.Bool.{true, _&&_}
 use mathlib.Core.List.{List}
-use native.Mathlib.Nat.{le-step, lt-suc-self, zero-mod}
+use native.Mathlib.Nat.{zero-mod}
 use native.Mathlib.Omega.{arith}
 use native.Mathlib.Decide.{decLt}
-use borrow.Author.Tests.{eq-eqb, lt-ltb, le-ltb}
+use borrow.Author.Tests.{eq-eqb, lt-ltb}
 use lib.Dec.{eqb, ltb}
 use lib.ListN.{length}
-use Rattle.definitions.specs.Sequences.{every}
 use Rattle.definitions.specs.Refusals.{firstRefusal}
 use Rattle.definitions.specs.Parameters.{Parameters, smallBits, secretLength, ciphertextLength, messageLength, workLength}
 use Rattle.definitions.specs.Ring.{Element, modulo}
 use Rattle.definitions.specs.Calls.{tailClear, messageOf, decryptedFrom, decryptAnswer}
-use Rattle.definitions.specs.Demand3.{WellFormed, DecryptsTo}
-use Rattle.definitions.proofs.Sums.{every-true, tabulate-cong}
+use Rattle.definitions.specs.Demand3.{WellFormed, ZeroPastMessage, DecryptsTo}
+use Rattle.definitions.proofs.Sums.{every-true, every-cong, tabulate-cong}
+use Rattle.definitions.proofs.Tests.{either-first, either-second}
 use Rattle.definitions.proofs.Calls.{Zero, answer-exact}
-
-pub every-cong : (n : ℕ) {f g : ℕ → Bool} → ((k : ℕ) → k < n → f k ≡ g k) → every n f ≡ every n g
-unfolding every
-every-cong zero h = refl
-every-cong (suc n) h = ap₂ _&&_ (every-cong n (λ k l. h k (le-step l))) (h n (lt-suc-self n))
 
 module _ (p : Parameters) {a b : Element} (same : (k : ℕ) → k < p .n → a k ≡ b k) where
   pub tailClear-cong : tailClear p a ≡ tailClear p b
   unfolding tailClear
-  tailClear-cong = every-cong (p .n) (λ k l. ap (λ (x : ℕ). ltb (k * smallBits (p .l)) (p .mlen) || eqb x 0) (same k l))
+  tailClear-cong = every-cong (p .n) (λ k l. rw (same k l))
 
   pub messageOf-cong : messageOf p a ≡ messageOf p b
   unfolding messageOf
   messageOf-cong = rw (tabulate-cong (p .n) same)
 
 -- whole numbers that are zero past mlen have a clear tail modulo ℓ
-pub tailClear-true : (p : Parameters) (m : Element) → ((k : ℕ) → p .mlen ≤ k * smallBits (p .l) → m k ≡ 0) → tailClear p (modulo (p .l) m) ≡ true
+pub tailClear-true : (p : Parameters) (m : Element) → ZeroPastMessage p m → tailClear p (modulo (p .l) m) ≡ true
 unfolding tailClear modulo
 tailClear-true p m tail =
     every-true (p .n) (λ k l.
     elim (decLt (k * smallBits (p .l)) (p .mlen)) [
-      | yes s ↦ rw (lt-ltb _ _ s)
-      | no s ↦ let past : p .mlen ≤ k * smallBits (p .l) = omega arith in
-          rw (le-ltb (k * smallBits (p .l)) (p .mlen) past, tail k past, zero-mod (p .l))
+      | yes s ↦ either-first _ _ (lt-ltb (k * smallBits (p .l)) (p .mlen) s)
+      | no s ↦ either-second (ltb (k * smallBits (p .l)) (p .mlen)) _ (eq-eqb (m k % p .l) 0 (rw (tail k (omega arith)) (zero-mod (p .l))))
     ])
 
 pub decrypts-alike : (p : Parameters) (secret c d : List ℕ) → WellFormed p c → WellFormed p d
@@ -63,8 +57,7 @@ decrypts-alike p secret c d wc wd same messageLen workLen =
       messageOf-cong p {a = decryptedFrom p secret c} {b = decryptedFrom p secret d} same,
     )
 
-pub decrypts-to : (p : Parameters) (public secret c : List ℕ) (places : Element) → Zero p public secret → WellFormed p c
-    → ((k : ℕ) → p .mlen ≤ k * smallBits (p .l) → places k ≡ 0)
+pub decrypts-to : (p : Parameters) (public secret c : List ℕ) (places : Element) → Zero p public secret → WellFormed p c → ZeroPastMessage p places
     → ((k : ℕ) → k < p .n → decryptedFrom p secret c k ≡ modulo (p .l) places k)
     → DecryptsTo p secret c places
 unfolding decryptAnswer firstRefusal

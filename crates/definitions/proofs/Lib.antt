@@ -23,3 +23,5 @@ pub mod MadeKeys
 pub mod Kept
 pub mod Ledger
 pub mod Alike
+pub mod Corollaries
+pub mod Witness

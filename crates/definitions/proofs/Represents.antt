@@ -6,7 +6,7 @@
 -- Degree and bound are parameters, and nothing here knows of a list of calls. Assumes nothing.
 use Prim.Native.Nat.{ℕ, _+_, _*_, _%_, _≤_, _<_}
 use mathlib.Core.Path.{_≡_, refl, sym, ap, _∙_}
-use native.Mathlib.Nat.{add-mul-mod-self-left, mod-eq-of-lt, mul-le-mul-left, add-le-add, zero-mod, lt-of-le-of-lt}
+use native.Mathlib.Nat.{add-mul-mod-self-left, mod-eq-of-lt, mul-le-mul-left, add-le-add, le-trans, zero-mod, lt-of-le-of-lt}
 use native.Mathlib.Omega.{arith}
 use Rattle.definitions.specs.Parameters.{Parameters, degree, termSum, bound, monomialCount}
 use Rattle.definitions.specs.Ring.{Element, modulo, add, scale, InRing}
@@ -47,6 +47,10 @@ module _ {n q l d β : ℕ} {c : Polynomial} {ux uy m : Element} where
         valued = λ k s. cong-trans (r .valued k s) (value-cong-modulo n d ux uy h k);
         message = r .message;
       }
+
+  pub represents-weaken : {γ : ℕ} → β ≤ γ → Represents n q l d β c ux uy m → Represents n q l d γ c ux uy m
+  represents-weaken h r =
+      record { whole = r .whole; small = λ k s. le-trans (r .small k s) h; valued = r .valued; message = r .message }
 
   pub represents-decrypts : β < q → Represents n q l d β c ux uy m → (k : ℕ) → k < n → value n d c ux uy k % q % l ≡ m k % l
   represents-decrypts fits r k s =

@@ -1,4 +1,4 @@
--- What a test made of two tests tells of each.
+-- What a test made of two tests tells of each, and what each tells of it.
 -- Assumes nothing.
 use mathlib.Core.Path.{_≡_, refl}
 use mathlib.Core.Logic.{_⊎_, inl, inr}
@@ -15,3 +15,10 @@ either-true false b e = inr e
 pub neither-true : (a b : Bool) → (a || b) ≡ false → (a ≡ false) × (b ≡ false)
 neither-true true b e = (e, cc)
 neither-true false b e = (refl, e)
+
+pub either-first : (a b : Bool) → a ≡ true → (a || b) ≡ true
+either-first a b e = rw e
+
+pub either-second : (a b : Bool) → b ≡ true → (a || b) ≡ true
+either-second true b e = refl
+either-second false b e = e

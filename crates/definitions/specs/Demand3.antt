@@ -2,12 +2,16 @@
 --
 --   AcceptedSet      a set that no test of 1 to 5 refuses
 --   ZeroOf           a secret that is a zero of the key (01: a fitting secret): its zero test answers yes
+--   InSmallRing      a list of the n coefficients of an element of R_ℓ;  secretOf: the octets of a secret, from its two elements
 --   WellFormed       octets of a ciphertext's exact length with every coefficient below q (01: well formed)
 --   DecryptsTo       decryption answers 6 where a length is not the exact one, otherwise 0 and the message of the numbers modulo ℓ
 --   MadeKeys         every made key has its secret as a zero
+--   SmallZeros       a pair of small elements is a zero of a key just where the key's value there is 0 (01: a small secret)
+--   ZeroPastMessage  an entry's places past mlen bits hold 0
 --   EntryHolds       what holds of a ciphertext and its entry
 --   LedgerHolds      one claim about a list of calls: a ciphertext for each entry, and EntryHolds of each
---   Alike            two ciphertexts that differ by the key times a polynomial of degree at most dr decrypt alike
+--   DiffersBy        one ciphertext is another plus the key times a polynomial of degree at most dr
+--   Alike            two ciphertexts that differ so decrypt alike
 -- Assumes nothing.
 use Prim.Native.Nat.{ℕ, _+_, _*_, _≤_, _<_, _%_}
 use mathlib.Core.Path.{_≡_}
@@ -73,10 +77,14 @@ SmallZeros =
     (public : List ℕ) → length public ≡ publicLength p → elementsFit p (monomialCount (p .dx)) public ≡ true →
     (ux uy : List ℕ) → InSmallRing p ux → InSmallRing p uy → SmallZero p public ux uy
 
+-- the places past mlen bits hold 0
+abbrev pub ZeroPastMessage : Parameters → Element → Type 0
+ZeroPastMessage p places = (k : ℕ) → p .mlen ≤ k * smallBits (p .l) → places k ≡ 0
+
 pub record EntryHolds (p : Parameters) (public ciphertext : List ℕ) (entry : Entry) : Type 0 where
   pub counted : 1 ≤ entry .count
   pub well-formed : WellFormed p ciphertext
-  pub tail : (k : ℕ) → p .mlen ≤ k * smallBits (p .l) → entry .places k ≡ 0
+  pub tail : ZeroPastMessage p (entry .places)
   pub decrypts :
       entry .count * bound p < p .q → (secret : List ℕ) → ZeroOf p public secret → DecryptsTo p secret ciphertext (entry .places)
 
