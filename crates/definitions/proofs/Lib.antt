@@ -1,2 +1,4 @@
 -- Laws of the definitions.
 pub mod WorkedCases
+pub mod Sums
+pub mod Congruence
