@@ -2,3 +2,11 @@
 pub mod WorkedCases
 pub mod Sums
 pub mod Congruence
+pub mod Ring
+pub mod Monomials
+pub mod Values
+pub mod Tests
+pub mod Refusals
+pub mod Parameters
+pub mod Octets
+pub mod Packing
