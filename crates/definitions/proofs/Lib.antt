@@ -1,6 +1,7 @@
 -- Laws of the definitions.
 pub mod WorkedCases
 pub mod Sums
+pub mod Filling
 pub mod Congruence
 pub mod Ring
 pub mod Monomials
