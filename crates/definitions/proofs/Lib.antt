@@ -1,6 +1,7 @@
 -- Laws of the definitions, and from Represents on the proof of demand 3.
 pub mod WorkedCases
 pub mod Sums
+pub mod Filling
 pub mod Congruence
 pub mod Ring
 pub mod Monomials
