@@ -1,0 +1,77 @@
+// Sums and products in R_q, over the work words (01, "Ring, monomials, octets"): elements stand in one slice, each at an offset.
+ghost use mathlib.Core.Path.{_≡_};
+ghost use Prim.Native.Nat.{ℕ, _+_, _-_, _*_, _%_, _/_, _<_, _≤_};
+ghost use lib.ListN.{length, getD, replicate};
+ghost use Rattle.definitions.specs.Sequences.{tabulate};
+ghost use Rattle.definitions.specs.Ring.{conv, InRing};
+ghost use Rattle.ring.specs.Work.{part, written, padded, rowTerm};
+
+// Where a sum of four products is cut into a low and a high half: 2^42.
+const CUT: u64 = 4398046511104;
+
+// The sum of two coefficients.
+pub fn sum(a: u32, b: u32, q: u32) -> u32
+    requires { ⌜ (a < q) × (b < q) × (q < 2147483648) ⌝ }
+    ensures { λ r. ⌜ r ≡ (a + b) % q ⌝ }
+{
+    let s = a + b;
+    if s < q {
+        s
+    } else {
+        s - q
+    }
+}
+
+// n - i, or 0 past n.
+fn row_start(n: usize, i: usize) -> usize
+    ensures { λ r. ⌜ r ≡ n - i ⌝ }
+{
+    if i < n {
+        n - i
+    } else {
+        0
+    }
+}
+
+fn factor(work: &[u32], a: usize, n: usize, i: usize) -> u32
+    requires { ⌜ a + n ≤ length (now work) ⌝ }
+    ensures { λ r. ⌜ r ≡ padded n (part (now (work .entry)) a) i ⌝ }
+{
+    if i < n {
+        work[a + i]
+    } else {
+        0
+    }
+}
+
+fn copy(to: &mut [u64], at: usize, work: &[u32], from: usize, n: usize)
+    requires { ⌜ (at + n ≤ length (now to)) × (from + n ≤ length (now work)) ⌝ }
+    ensures { λ _. ⌜ now (to .exit) ≡ written at (tabulate n (part (now (work .entry)) from)) (now (to .entry)) ⌝ }
+{
+    let mut k = 0;
+    while k < n {
+        to[at + k] = work[from + k] as u64;
+        k += 1;
+    }
+}
+
+fn add_rows(low: &mut [u64], high: &mut [u64], work: &[u32], a: usize, twice: &[u64], n: usize, i: usize) {
+    let a0 = factor(work, a, n, i);
+    let a1 = factor(work, a, n, i + 1);
+    let a2 = factor(work, a, n, i + 2);
+    let a3 = factor(work, a, n, i + 3);
+    let r0 = row_start(n, i);
+    let r1 = row_start(n, i + 1);
+    let r2 = row_start(n, i + 2);
+    let r3 = row_start(n, i + 3);
+    let mut k = 0;
+    while k < n {
+        let s = (a0 as u64) * (twice[r0 + k] as u32 as u64)
+            + (a1 as u64) * (twice[r1 + k] as u32 as u64)
+            + (a2 as u64) * (twice[r2 + k] as u32 as u64)
+            + (a3 as u64) * (twice[r3 + k] as u32 as u64);
+        low[k] = low[k] + s % CUT;
+        high[k] = high[k] + s / CUT;
+        k += 1;
+    }
+}
