@@ -1,0 +1,3 @@
+-- Laws of the work words.
+pub mod Work
+pub mod Bounds

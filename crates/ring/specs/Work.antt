@@ -1,0 +1,46 @@
+-- How ring elements stand in the work words: each n words in a row, from an offset on.
+--
+--   part             the element that stands at an offset
+--   written          the words with a list written over them from an offset on; all others as they were
+--   padded           an element followed by zeros: the factors of the rows past the last
+--   rowTerm          what row i of a product a × b adds at place k, read from a list in which b stands twice in a row
+--   rowSum           the same for the four rows from i on, with the factors a0 to a3
+--   fourRows         with the factors of a
+--   Halves           a number cut at 2^42: low + 2^42 × high, both small enough to be put together again below 2^64
+--
+-- Assumes nothing.
+use Prim.Native.Nat.{ℕ, _+_, _-_, _*_, _<_}
+use mathlib.Core.Path.{_≡_}
+use mathlib.Core.Bool.{cond}
+use mathlib.Core.List.{List, _++_}
+use lib.Dec.{ltb}
+use lib.ListN.{getD, take, drop, length}
+use Rattle.definitions.specs.Ring.{Element}
+
+abbrev pub part : List ℕ → ℕ → Element
+part work at k = getD work (at + k) 0
+
+unfoldable pub written : ℕ → List ℕ → List ℕ → List ℕ
+written at new old = take at old ++ (new ++ drop (at + length new) old)
+
+unfoldable pub padded : ℕ → Element → Element
+padded n a i = cond (ltb i n) (a i) 0
+
+unfoldable pub rowTerm : ℕ → Element → List ℕ → ℕ → ℕ → ℕ
+rowTerm n a twice k i = padded n a i * getD twice (n - i + k) 0
+
+unfoldable pub rowSum : ℕ → ℕ → ℕ → ℕ → ℕ → List ℕ → ℕ → ℕ → ℕ
+rowSum a0 a1 a2 a3 n twice i k =
+    a0 * getD twice (n - i + k) 0
+    + a1 * getD twice (n - (i + 1) + k) 0
+    + a2 * getD twice (n - (i + 2) + k) 0
+    + a3 * getD twice (n - (i + 3) + k) 0
+
+unfoldable pub fourRows : ℕ → Element → List ℕ → ℕ → ℕ → ℕ
+unfolding rowSum
+fourRows n a twice i k = rowSum (padded n a i) (padded n a (i + 1)) (padded n a (i + 2)) (padded n a (i + 3)) n twice i k
+
+pub record Halves (total low high : ℕ) : Type 0 where
+  pub whole : low + 4398046511104 * high ≡ total
+  pub low-small : low < 9223372036854775808
+  pub high-small : high < 6442450944
