@@ -4,7 +4,7 @@ ghost use Prim.Native.Nat.{ℕ, _+_, _-_, _*_, _%_, _/_, _<_, _≤_};
 ghost use lib.ListN.{length, getD, replicate};
 ghost use Rattle.definitions.specs.Sequences.{tabulate};
 ghost use Rattle.definitions.specs.Ring.{conv, InRing, elementOf};
-ghost use Rattle.ring.specs.Work.{part, written, padded, rowSum, fourRows};
+ghost use Rattle.ring.specs.Work.{part, written, padded, factorsFrom, rowSum, fourRows};
 
 // Where a sum of four products is cut into a low and a high half: 2^42.
 const CUT: u64 = 4398046511104;
@@ -55,29 +55,49 @@ fn copy(to: &mut [u64], at: usize, work: &[u32], from: usize, n: usize)
     }
 }
 
-// The sum of four products.
-fn products(a0: u32, a1: u32, a2: u32, a3: u32, b0: u64, b1: u64, b2: u64, b3: u64) -> u64
-    requires { ⌜ (a0 < 2147483648) × (a1 < 2147483648) × (a2 < 2147483648) × (a3 < 2147483648) ⌝ }
-    requires { ⌜ (b0 < 2147483648) × (b1 < 2147483648) × (b2 < 2147483648) × (b3 < 2147483648) ⌝ }
-    ensures { λ r. ⌜ r ≡ a0 * b0 + a1 * b1 + a2 * b2 + a3 * b3 ⌝ }
+// The factors of four rows.
+struct Factors {
+    a0: u32,
+    a1: u32,
+    a2: u32,
+    a3: u32,
+}
+
+fn factors_from(work: &[u32], a: usize, n: usize, i: usize) -> Factors
+    requires { ⌜ (a + n ≤ length (now work)) × (i < n) ⌝ }
+    ensures { λ r. ⌜ r ≡ factorsFrom n (part (now (work .entry)) a) i ⌝ }
 {
-    (a0 as u64) * (b0 as u32 as u64)
-        + (a1 as u64) * (b1 as u32 as u64)
-        + (a2 as u64) * (b2 as u32 as u64)
-        + (a3 as u64) * (b3 as u32 as u64)
+    Factors {
+        a0: factor(work, a, n, i),
+        a1: factor(work, a, n, i + 1),
+        a2: factor(work, a, n, i + 2),
+        a3: factor(work, a, n, i + 3),
+    }
+}
+
+// The sum of four products.
+fn products(f: Factors, b0: u64, b1: u64, b2: u64, b3: u64) -> u64
+    requires { ⌜ (f .a0 < 2147483648) × (f .a1 < 2147483648) × (f .a2 < 2147483648) × (f .a3 < 2147483648) ⌝ }
+    requires { ⌜ (b0 < 2147483648) × (b1 < 2147483648) × (b2 < 2147483648) × (b3 < 2147483648) ⌝ }
+    ensures { λ r. ⌜ r ≡ f .a0 * b0 + f .a1 * b1 + f .a2 * b2 + f .a3 * b3 ⌝ }
+{
+    (f.a0 as u64) * (b0 as u32 as u64)
+        + (f.a1 as u64) * (b1 as u32 as u64)
+        + (f.a2 as u64) * (b2 as u32 as u64)
+        + (f.a3 as u64) * (b3 as u32 as u64)
 }
 
 // Four rows, from row i on, at place k.
-fn row_sum(a0: u32, a1: u32, a2: u32, a3: u32, twice: &[u64], n: usize, i: usize, k: usize) -> u64
-    requires { ⌜ (a0 < 2147483648) × (a1 < 2147483648) × (a2 < 2147483648) × (a3 < 2147483648) ⌝ }
+fn row_sum(f: Factors, twice: &[u64], n: usize, i: usize, k: usize) -> u64
+    requires { ⌜ (f .a0 < 2147483648) × (f .a1 < 2147483648) × (f .a2 < 2147483648) × (f .a3 < 2147483648) ⌝ }
     requires { ⌜ (n + n ≤ length (now twice)) × (i < n) × (k < n) × InRing 2147483648 (n + n) (elementOf (now twice)) ⌝ }
-    ensures { λ r. ⌜ r ≡ rowSum a0 a1 a2 a3 n (now (twice .entry)) i k ⌝ }
+    ensures { λ r. ⌜ r ≡ rowSum f n (now (twice .entry)) i k ⌝ }
 {
     let r0 = row_start(n, i);
     let r1 = row_start(n, i + 1);
     let r2 = row_start(n, i + 2);
     let r3 = row_start(n, i + 3);
-    products(a0, a1, a2, a3, twice[r0 + k], twice[r1 + k], twice[r2 + k], twice[r3 + k])
+    products(f, twice[r0 + k], twice[r1 + k], twice[r2 + k], twice[r3 + k])
 }
 
 fn add_rows(low: &mut [u64], high: &mut [u64], work: &[u32], a: usize, twice: &[u64], n: usize, i: usize)
@@ -87,13 +107,10 @@ fn add_rows(low: &mut [u64], high: &mut [u64], work: &[u32], a: usize, twice: &[
     ensures { λ _. ⌜ now (low .exit) ≡ written 0 (tabulate n (λ k. getD (now (low .entry)) k 0 + fourRows n (part (now (work .entry)) a) (now (twice .entry)) i k % 4398046511104)) (now (low .entry)) ⌝ }
     ensures { λ _. ⌜ now (high .exit) ≡ written 0 (tabulate n (λ k. getD (now (high .entry)) k 0 + fourRows n (part (now (work .entry)) a) (now (twice .entry)) i k / 4398046511104)) (now (high .entry)) ⌝ }
 {
-    let a0 = factor(work, a, n, i);
-    let a1 = factor(work, a, n, i + 1);
-    let a2 = factor(work, a, n, i + 2);
-    let a3 = factor(work, a, n, i + 3);
+    let f = factors_from(work, a, n, i);
     let mut k = 0;
     while k < n {
-        let s = row_sum(a0, a1, a2, a3, twice, n, i, k);
+        let s = row_sum(f, twice, n, i, k);
         low[k] = low[k] + s % CUT;
         high[k] = high[k] + s / CUT;
         k += 1;

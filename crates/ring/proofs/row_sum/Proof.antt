@@ -1,8 +1,8 @@
 -- `ring::row_sum` meets its contract: its four starts are those of the rows.
 -- Assumes nothing.
-use Prim.Native.Nat.{_+_}
 use native.Mathlib.Omega.{arith}
 use borrow.Author.Needs.{needs}
+use Prim.Native.Nat.{_+_}
 use Rattle.ring.specs.Work.{rowSum}
 use Rattle.ring.proofs.row_sum.Statement.{statement}
 use Rattle.ring.proofs.row_sum.Tie as tie
