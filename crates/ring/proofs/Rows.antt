@@ -2,18 +2,20 @@
 -- Assumes nothing.
 use Prim.Native.Nat.{ℕ, zero, suc, _+_, _-_, _*_, _%_, _/_, _≤_, _<_}
 use native.Mathlib.Decide.{decLt}
-use native.Mathlib.Nat.{zero-mul, add-comm, mod-eq-of-lt, add-mod-left}
+use native.Mathlib.Nat.{add-zero, zero-add, zero-mul, add-comm, mod-eq-of-lt, add-mod-left}
 use native.Mathlib.Omega.{arith}
 use mathlib.Core.Path.{_≡_, refl, sym, _∙_, ap}
 use mathlib.Core.List.{List}
+use lib.Dec.{lit<}
 use borrow.Author.Tests.{lt-ltb, le-ltb}
 use lib.ListN.{length, getD, replicate, length-replicate}
 use Rattle.definitions.specs.Sequences.{sum, tabulate}
-use Rattle.definitions.specs.Ring.{Element, InRing, conv}
+use Rattle.definitions.specs.Ring.{Element, InRing, elementOf, conv}
 use Rattle.definitions.proofs.Sums.{sum-cong, sum-append, sum-zero}
 use Rattle.definitions.proofs.Ring.{conv-at}
-use Rattle.ring.specs.Work.{part, written, padded, factorsFrom, rowTerm, fourRows}
-use Rattle.ring.proofs.Work.{part-written}
+use Rattle.ring.specs.Work.{part, written, padded, factorsFrom, rowTerm, rowSum, fourRows, Halves}
+use Rattle.ring.proofs.Work.{part-written, getD-written-before, getD-written-front, length-written-tabulate}
+use Rattle.ring.proofs.Bounds.{product-small, Summed, summed-none, summed-more, summed-halves}
 
 pub padded-inside : (n : ℕ) (a : Element) {i : ℕ} → i < n → padded n a i ≡ a i
 unfolding padded
@@ -30,3 +32,63 @@ padded-below n a h l i =
 pub factors-below : (n : ℕ) (a : Element) {q : ℕ} → InRing q n a → 0 < q → (i : ℕ) → (factorsFrom n a i .a0 < q) × (factorsFrom n a i .a1 < q) × (factorsFrom n a i .a2 < q) × (factorsFrom n a i .a3 < q)
 unfolding factorsFrom
 factors-below n a h l i = (padded-below n a h l i, padded-below n a h l (i + 1), padded-below n a h l (i + 2), padded-below n a h l (i + 3))
+
+pub four-rows-fit : (n : ℕ) (a : Element) (twice : List ℕ) {i k : ℕ} → InRing 2147483648 n a → InRing 2147483648 (n + n) (elementOf twice) → i < n → k < n → fourRows n a twice i k < 18446744073709551616
+unfolding rowSum
+four-rows-fit n a twice {i} {k} h g l s =
+    let f = factors-below n a h (lit< tt) i in
+    omega (arith, product-small (f .0) (g (n - i + k) (omega arith)), product-small (f .1) (g (n - (i + 1) + k) (omega arith)), product-small (f .2) (g (n - (i + 2) + k) (omega arith)), product-small (f .3) (g (n - (i + 3) + k) (omega arith)))
+
+-- four rows more
+pub sum-four-rows : (n : ℕ) (a : Element) (twice : List ℕ) (i k : ℕ) → sum (i + 4) (rowTerm n a twice k) ≡ sum i (rowTerm n a twice k) + fourRows n a twice i k
+unfolding sum rowTerm rowSum factorsFrom
+sum-four-rows n a twice i k = sum-append i 4 (rowTerm n a twice k) ∙ simp (add-zero, zero-add)
+
+-- rows past the last hold nothing
+pub sum-rows-past : (n : ℕ) (a : Element) (twice : List ℕ) (k : ℕ) {m : ℕ} → n ≤ m → sum m (rowTerm n a twice k) ≡ sum n (rowTerm n a twice k)
+unfolding rowTerm
+sum-rows-past n a twice k {m} h =
+    let e : m ≡ n + (m - n) = omega arith in
+    let none : sum (m - n) (λ i. rowTerm n a twice k (n + i)) ≡ 0 =
+        sum-zero (m - n) (λ i l. rw (padded-outside n a {i = n + i} (omega arith)) (zero-mul (getD twice (n - (n + i) + k) 0)))
+    in
+    ap (λ (j : ℕ). sum j (rowTerm n a twice k)) e ∙ sum-append n (m - n) (rowTerm n a twice k) ∙ rw none (add-zero (sum n (rowTerm n a twice k)))
+
+pub rows-conv : (n : ℕ) (a b : Element) (twice : List ℕ) {k : ℕ} → ((m : ℕ) → m < n + n → getD twice m 0 ≡ b (m % n)) → k < n → sum n (rowTerm n a twice k) ≡ conv n a b k
+unfolding rowTerm
+rows-conv n a b twice {k} h l =
+    sum-cong n (λ i s. rw (padded-inside n a s, h (n - i + k) (omega arith), add-comm (n - i) k)) ∙ sym (conv-at n a b l)
+
+-- ---- the rows so far, at every place: the loop over the rows
+abbrev pub Rows : ℕ → Element → List ℕ → ℕ → List ℕ → List ℕ → Type 0
+Rows n a twice i low high = (k : ℕ) → k < n → Summed i (sum i (rowTerm n a twice k)) (getD low k 0) (getD high k 0)
+
+pub rows-none : (n : ℕ) (a : Element) (twice low high : List ℕ) → InRing 1 n (elementOf low) → InRing 1 n (elementOf high) → Rows n a twice 0 low high
+unfolding sum
+rows-none n a twice low high h g k l = summed-none (h k l) (g k l)
+
+pub rows-more : (n : ℕ) (a : Element) (twice low high : List ℕ) {i : ℕ} {low′ high′ : List ℕ} →
+    InRing 2147483648 n a → InRing 2147483648 (n + n) (elementOf twice) → i < n →
+    low′ ≡ written 0 (tabulate n (λ k. getD low k 0 + fourRows n a twice i k % 4398046511104)) low →
+    high′ ≡ written 0 (tabulate n (λ k. getD high k 0 + fourRows n a twice i k / 4398046511104)) high →
+    Rows n a twice i low high → Rows n a twice (i + 4) low′ high′
+rows-more n a twice low high {i} h g l d e r k s =
+    rw (d, e, getD-written-front n (λ j. getD low j 0 + fourRows n a twice i j % 4398046511104) low s, getD-written-front n (λ j. getD high j 0 + fourRows n a twice i j / 4398046511104) high s, sum-four-rows n a twice i k)
+    (summed-more (r k s) (four-rows-fit n a twice h g l s))
+
+pub rows-all : (n : ℕ) (a : Element) (twice low high : List ℕ) {i : ℕ} → n ≤ i → i < 4100 → Rows n a twice i low high → (k : ℕ) → k < n → Halves (sum n (rowTerm n a twice k)) (getD low k 0) (getD high k 0)
+rows-all n a twice low high h l r k s = rw (← sum-rows-past n a twice k h) (summed-halves (r k s) l)
+
+-- ---- b written twice in a row
+pub twice-at : (n : ℕ) (b : Element) (old : List ℕ) → n + n ≤ length old → (m : ℕ) → m < n + n → getD (written n (tabulate n b) (written 0 (tabulate n b) old)) m 0 ≡ b (m % n)
+twice-at n b old h m l =
+    let first : List ℕ = written 0 (tabulate n b) old in
+    let long : length first ≡ length old = length-written-tabulate 0 n b old (omega arith) in
+    elim (decLt m n) [
+      | yes s ↦ getD-written-before n (tabulate n b) first (omega arith) s ∙ getD-written-front n b old s ∙ ap b (sym (mod-eq-of-lt s))
+      | no g ↦
+          let e : m ≡ n + (m - n) = omega arith in
+          ap (λ (j : ℕ). getD (written n (tabulate n b) first) j 0) e
+          ∙ part-written n n b first {k = m - n} (omega arith) (omega arith)
+          ∙ ap b (sym (ap (λ (j : ℕ). j % n) e ∙ add-mod-left n (m - n) ∙ mod-eq-of-lt (omega arith)))
+    ]

@@ -45,5 +45,5 @@ fourRows n a twice i k = rowSum (factorsFrom n a i) n twice i k
 
 pub record Halves (total low high : ℕ) : Type 0 where
   pub whole : low + 4398046511104 * high ≡ total
-  pub low-small : low < 9223372036854775808
+  pub low-small : low < 18014398509481984
   pub high-small : high < 6442450944

@@ -2,9 +2,9 @@
 ghost use mathlib.Core.Path.{_≡_};
 ghost use Prim.Native.Nat.{ℕ, _+_, _-_, _*_, _%_, _/_, _<_, _≤_};
 ghost use lib.ListN.{length, getD, replicate};
-ghost use Rattle.definitions.specs.Sequences.{tabulate};
+ghost use Rattle.definitions.specs.Sequences.{sum, tabulate};
 ghost use Rattle.definitions.specs.Ring.{conv, InRing, elementOf};
-ghost use Rattle.ring.specs.Work.{part, written, padded, factorsFrom, rowSum, fourRows};
+ghost use Rattle.ring.specs.Work.{part, written, padded, factorsFrom, rowTerm, rowSum, fourRows, Halves};
 
 // Where a sum of four products is cut into a low and a high half: 2^42.
 const CUT: u64 = 4398046511104;
@@ -115,4 +115,49 @@ fn add_rows(low: &mut [u64], high: &mut [u64], work: &[u32], a: usize, twice: &[
         high[k] = high[k] + s / CUT;
         k += 1;
     }
+}
+
+// All rows, from sums that are 0.
+fn all_rows(low: &mut [u64], high: &mut [u64], work: &[u32], a: usize, twice: &[u64], n: usize)
+    requires { ⌜ (a + n ≤ length (now work)) × (n ≤ length (now low)) × (n ≤ length (now high)) × (n + n ≤ length (now twice)) × (n ≤ 4096) ⌝ }
+    requires { ⌜ InRing 2147483648 n (part (now work) a) × InRing 2147483648 (n + n) (elementOf (now twice)) ⌝ }
+    requires { ⌜ InRing 1 n (elementOf (now low)) × InRing 1 n (elementOf (now high)) ⌝ }
+    ensures { λ _. ⌜ ((k : ℕ) → k < n → Halves (sum n (rowTerm n (part (now (work .entry)) a) (now (twice .entry)) k)) (getD (now (low .exit)) k 0) (getD (now (high .exit)) k 0)) ⌝ }
+{
+    let mut i = 0;
+    while i < n {
+        add_rows(low, high, work, a, twice, n, i);
+        i += 4;
+    }
+}
+
+// The halves put together, added to the element at c and reduced.
+fn reduce(work: &mut [u32], c: usize, n: usize, q: u32, low: &[u64], high: &[u64])
+    requires { ⌜ (c + n ≤ length (now work)) × (n ≤ length (now low)) × (n ≤ length (now high)) × (0 < q) × (q < 2147483648) ⌝ }
+    requires { ⌜ InRing 18014398509481984 n (elementOf (now low)) × InRing 6442450944 n (elementOf (now high)) ⌝ }
+    ensures { λ _. ⌜ now (work .exit) ≡ written c (tabulate n (λ k. (getD (now (low .entry)) k 0 + 4398046511104 * getD (now (high .entry)) k 0 + part (now (work .entry)) c k) % q)) (now (work .entry)) ⌝ }
+{
+    let m = q as u64;
+    let fold = CUT % m;
+    let mut k = 0;
+    while k < n {
+        let s = high[k] * fold + low[k] + work[c + k] as u64;
+        work[c + k] = (s % m) as u32;
+        k += 1;
+    }
+}
+
+// In place c := a × b + c in R_q; all other words are kept.
+pub fn multiply_add(work: &mut [u32], a: usize, b: usize, c: usize, n: usize, q: u32)
+    requires { ⌜ (a + n ≤ length (now work)) × (b + n ≤ length (now work)) × (c + n ≤ length (now work)) × (n ≤ 4096) × (0 < q) × (q < 2147483648) ⌝ }
+    requires { ⌜ InRing q n (part (now work) a) × InRing q n (part (now work) b) ⌝ }
+    ensures { λ _. ⌜ now (work .exit) ≡ written c (tabulate n (λ k. (conv n (part (now (work .entry)) a) (part (now (work .entry)) b) k + part (now (work .entry)) c k) % q)) (now (work .entry)) ⌝ }
+{
+    let mut twice = [0u64; 8192];
+    copy(&mut twice, 0, work, b, n);
+    copy(&mut twice, n, work, b, n);
+    let mut low = [0u64; 4096];
+    let mut high = [0u64; 4096];
+    all_rows(&mut low, &mut high, work, a, &twice, n);
+    reduce(work, c, n, q, &low, &high);
 }
