@@ -131,18 +131,25 @@ fn all_rows(low: &mut [u64], high: &mut [u64], work: &[u32], a: usize, twice: &[
     }
 }
 
-// The halves put together, added to the element at c and reduced.
+// Two halves put together, added to x and reduced; fold is 2^42 modulo q.
+fn reduced(low: u64, high: u64, x: u32, fold: u64, q: u32) -> u32
+    requires { ⌜ (low < 18014398509481984) × (high < 6442450944) × (0 < q) × (q < 2147483648) × (fold ≡ 4398046511104 % q) ⌝ }
+    ensures { λ r. ⌜ r ≡ (low + 4398046511104 * high + x) % q ⌝ }
+{
+    let s = high * fold + low + x as u64;
+    (s % (q as u64)) as u32
+}
+
+// The same at each place of the element at c.
 fn reduce(work: &mut [u32], c: usize, n: usize, q: u32, low: &[u64], high: &[u64])
     requires { ⌜ (c + n ≤ length (now work)) × (n ≤ length (now low)) × (n ≤ length (now high)) × (0 < q) × (q < 2147483648) ⌝ }
     requires { ⌜ InRing 18014398509481984 n (elementOf (now low)) × InRing 6442450944 n (elementOf (now high)) ⌝ }
     ensures { λ _. ⌜ now (work .exit) ≡ written c (tabulate n (λ k. (getD (now (low .entry)) k 0 + 4398046511104 * getD (now (high .entry)) k 0 + part (now (work .entry)) c k) % q)) (now (work .entry)) ⌝ }
 {
-    let m = q as u64;
-    let fold = CUT % m;
+    let fold = CUT % (q as u64);
     let mut k = 0;
     while k < n {
-        let s = high[k] * fold + low[k] + work[c + k] as u64;
-        work[c + k] = (s % m) as u32;
+        work[c + k] = reduced(low[k], high[k], work[c + k], fold, q);
         k += 1;
     }
 }

@@ -1,105 +1,82 @@
+-- `ring::reduce` meets its contract: after k turns the first k places are put together and reduced.
+-- Assumes nothing.
+use native.Mathlib.Omega.{arith}
+use Prim.Native.Nat.{ℕ, _+_, _-_, _*_, _%_, _≤_}
+use mathlib.Core.Path.{_≡_, refl, ap, _∙_}
+use lib.ListN.{getD}
+use Rattle.ring.specs.Work.{part}
+use Rattle.ring.proofs.Work.{Writing, writing-none, writing-more, writing-ahead, writing-all}
 use Rattle.ring.proofs.reduce.Statement.{statement}
 use Rattle.ring.proofs.reduce.Tie as tie
-use Rattle.ring.proofs.reduce.Reads as reads
-use Rattle.ring.proofs.reduce.Lts as lts
 
 abbrev Inv-loop : tie.InvT-loop
-Inv-loop work₀ c n q low high m fold k₀ work k = ?
+Inv-loop work₀ c n q low high fold k₀ work k = (k ≤ n) × Writing c k (λ j. (getD low j 0 + 4398046511104 * getD high j 0 + part work₀ c j) % q) work₀ work
 
 abbrev μ-loop : tie.MeasureT-loop
-μ-loop work₀ c n q low high m fold k₀ work k = ?
+μ-loop work₀ c n q low high fold k₀ work k = n - k
 
--- src/lib.rt:141:16
 rem-fold : tie.Need-rem-fold Inv-loop μ-loop
-rem-fold c = ?
+rem-fold c = omega arith
 
--- src/lib.rt:143:5
 loop-holds : tie.Need-loop-holds Inv-loop μ-loop
-loop-holds c = ?
+loop-holds c = (omega arith, writing-none _ _ _)
 
--- src/lib.rt:144:17
-mul-s : tie.Need-mul-s Inv-loop μ-loop
-mul-s c = ?
+mul-reduced : tie.Need-mul-reduced Inv-loop μ-loop
+mul-reduced c = omega arith
 
--- src/lib.rt:144:17
-shared-slice-read-s : tie.Need-shared-slice-read-s Inv-loop μ-loop
-shared-slice-read-s c = ?
+shared-slice-read-reduced : tie.Need-shared-slice-read-reduced Inv-loop μ-loop
+shared-slice-read-reduced c = omega arith
 
--- src/lib.rt:144:17
-mul-s-2 : tie.Need-mul-s-2 Inv-loop μ-loop
-mul-s-2 c = ?
+mul-reduced-2 : tie.Need-mul-reduced-2 Inv-loop μ-loop
+mul-reduced-2 c = omega arith
 
--- src/lib.rt:144:34
-mul-s-3 : tie.Need-mul-s-3 Inv-loop μ-loop
-mul-s-3 c = ?
+shared-slice-read-reduced-2 : tie.Need-shared-slice-read-reduced-2 Inv-loop μ-loop
+shared-slice-read-reduced-2 c = omega arith
 
--- src/lib.rt:144:34
-shared-slice-read-s-2 : tie.Need-shared-slice-read-s-2 Inv-loop μ-loop
-shared-slice-read-s-2 c = ?
+add-reduced : tie.Need-add-reduced Inv-loop μ-loop
+add-reduced c = omega arith
 
--- src/lib.rt:144:17
-add-s : tie.Need-add-s Inv-loop μ-loop
-add-s c = ?
+mul-reduced-3 : tie.Need-mul-reduced-3 Inv-loop μ-loop
+mul-reduced-3 c = omega arith
 
--- src/lib.rt:144:48
-add-s-2 : tie.Need-add-s-2 Inv-loop μ-loop
-add-s-2 c = ?
+slice-read-reduced : tie.Need-slice-read-reduced Inv-loop μ-loop
+slice-read-reduced c = omega arith
 
--- src/lib.rt:144:43
-mul-s-4 : tie.Need-mul-s-4 Inv-loop μ-loop
-mul-s-4 c = ?
+reduced-requires : tie.Need-reduced-requires Inv-loop μ-loop
+reduced-requires c κs =
+    let start = c .before .before .before .before .before .before .before .before in
+    let k = c .before .before .before .before .loop .k in
+    (start .pre .1 .0 k (omega arith), start .pre .1 .1 k (omega arith), omega arith, omega arith, refl)
 
--- src/lib.rt:144:43
-slice-read-s : tie.Need-slice-read-s Inv-loop μ-loop
-slice-read-s c = ?
-
--- src/lib.rt:144:43
-cast-s : tie.Need-cast-s Inv-loop μ-loop
-cast-s c = ?
-
--- src/lib.rt:144:17
-add-s-3 : tie.Need-add-s-3 Inv-loop μ-loop
-add-s-3 c = ?
-
--- src/lib.rt:145:24
-rem-work : tie.Need-rem-work Inv-loop μ-loop
-rem-work c = ?
-
--- src/lib.rt:145:23
-cast-work : tie.Need-cast-work Inv-loop μ-loop
-cast-work c = ?
-
--- src/lib.rt:145:14
 add-work : tie.Need-add-work Inv-loop μ-loop
-add-work c = ?
+add-work c = omega arith
 
--- src/lib.rt:145:9
 mul-work : tie.Need-mul-work Inv-loop μ-loop
-mul-work c = ?
+mul-work c = omega arith
 
--- src/lib.rt:145:9
 slice-write-work : tie.Need-slice-write-work Inv-loop μ-loop
-slice-write-work c = ?
+slice-write-work c = omega arith
 
--- src/lib.rt:146:9
 add-k : tie.Need-add-k Inv-loop μ-loop
-add-k c = ?
+add-k c = omega arith
 
--- src/lib.rt:143:5
 loop-less : tie.Need-loop-less Inv-loop μ-loop
-loop-less c = ?
+loop-less c = omega arith
 
--- src/lib.rt:143:5
 loop-again : tie.Need-loop-again Inv-loop μ-loop
-loop-again c = ?
+loop-again c =
+    let a = c .before .before .before .before .before .before .before .before .before .args in
+    let l = c .before .before .before .before .before .loop in
+    let h : ℕ = getD (a .low .now) (l .k) 0 + 4398046511104 * getD (a .high .now) (l .k) 0 in
+    (omega arith,
+    writing-more (l .inv .1) refl (omega arith)
+    (c .reduced .ensures ∙ ap (λ (x : ℕ). (h + x) % a .q) (writing-ahead (a .c + l .k) (l .inv .1) (omega arith) (omega arith))))
 
--- src/lib.rt:135:1
 same-length : tie.Need-same-length Inv-loop μ-loop
-same-length c = ?
+same-length c = omega arith
 
--- src/lib.rt:135:1
 returns : tie.Need-returns Inv-loop μ-loop
-returns c = ?
+returns c = writing-all (c .before .loop .inv .1) (omega arith)
 
 pub reduce-spec : {M : Type 1} → statement M
 reduce-spec =
@@ -109,19 +86,14 @@ reduce-spec =
     μ-loop
     rem-fold
     loop-holds
-    mul-s
-    shared-slice-read-s
-    mul-s-2
-    mul-s-3
-    shared-slice-read-s-2
-    add-s
-    add-s-2
-    mul-s-4
-    slice-read-s
-    cast-s
-    add-s-3
-    rem-work
-    cast-work
+    mul-reduced
+    shared-slice-read-reduced
+    mul-reduced-2
+    shared-slice-read-reduced-2
+    add-reduced
+    mul-reduced-3
+    slice-read-reduced
+    reduced-requires
     add-work
     mul-work
     slice-write-work
