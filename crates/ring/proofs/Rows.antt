@@ -2,16 +2,16 @@
 -- Assumes nothing.
 use Prim.Native.Nat.{ℕ, zero, suc, _+_, _-_, _*_, _%_, _/_, _≤_, _<_}
 use native.Mathlib.Decide.{decLt}
-use native.Mathlib.Nat.{add-zero, zero-add, zero-mul, add-comm, mod-eq-of-lt, add-mod-left}
+use native.Mathlib.Nat.{add-zero, zero-add, zero-mul, add-comm, mod-eq-of-lt, mod-lt, add-mod-left, lt-of-lt-of-le}
 use native.Mathlib.Omega.{arith}
 use mathlib.Core.Path.{_≡_, refl, sym, _∙_, ap}
 use mathlib.Core.List.{List}
 use lib.Dec.{lit<}
 use borrow.Author.Tests.{lt-ltb, le-ltb}
-use lib.ListN.{length, getD, replicate, length-replicate}
+use lib.ListN.{length, getD, replicate, getD-replicate}
 use Rattle.definitions.specs.Sequences.{sum, tabulate}
 use Rattle.definitions.specs.Ring.{Element, InRing, elementOf, conv}
-use Rattle.definitions.proofs.Sums.{sum-cong, sum-append, sum-zero}
+use Rattle.definitions.proofs.Sums.{sum-cong, sum-append, sum-zero, tabulate-cong}
 use Rattle.definitions.proofs.Ring.{conv-at}
 use Rattle.ring.specs.Work.{part, written, padded, factorsFrom, rowTerm, rowSum, fourRows, Halves}
 use Rattle.ring.proofs.Work.{part-written, getD-written-before, getD-written-front, length-written-tabulate}
@@ -50,7 +50,7 @@ unfolding rowTerm
 sum-rows-past n a twice k {m} h =
     let e : m ≡ n + (m - n) = omega arith in
     let none : sum (m - n) (λ i. rowTerm n a twice k (n + i)) ≡ 0 =
-        sum-zero (m - n) (λ i l. rw (padded-outside n a {i = n + i} (omega arith)) (zero-mul (getD twice (n - (n + i) + k) 0)))
+    sum-zero (m - n) (λ i l. rw (padded-outside n a {i = n + i} (omega arith)) (zero-mul (getD twice (n - (n + i) + k) 0)))
     in
     ap (λ (j : ℕ). sum j (rowTerm n a twice k)) e ∙ sum-append n (m - n) (rowTerm n a twice k) ∙ rw none (add-zero (sum n (rowTerm n a twice k)))
 
@@ -67,6 +67,9 @@ pub rows-none : (n : ℕ) (a : Element) (twice low high : List ℕ) → InRing 1
 unfolding sum
 rows-none n a twice low high h g k l = summed-none (h k l) (g k l)
 
+pub zeros-below : (m : ℕ) {n : ℕ} → n ≤ m → InRing 1 n (elementOf (replicate m 0))
+zeros-below m h k l = rw (getD-replicate {A = ℕ} m k 0 0 (lt-of-lt-of-le l h)) (lit< tt)
+
 pub rows-more : (n : ℕ) (a : Element) (twice low high : List ℕ) {i : ℕ} {low′ high′ : List ℕ} →
     InRing 2147483648 n a → InRing 2147483648 (n + n) (elementOf twice) → i < n →
     low′ ≡ written 0 (tabulate n (λ k. getD low k 0 + fourRows n a twice i k % 4398046511104)) low →
@@ -80,15 +83,22 @@ pub rows-all : (n : ℕ) (a : Element) (twice low high : List ℕ) {i : ℕ} →
 rows-all n a twice low high h l r k s = rw (← sum-rows-past n a twice k h) (summed-halves (r k s) l)
 
 -- ---- b written twice in a row
-pub twice-at : (n : ℕ) (b : Element) (old : List ℕ) → n + n ≤ length old → (m : ℕ) → m < n + n → getD (written n (tabulate n b) (written 0 (tabulate n b) old)) m 0 ≡ b (m % n)
-twice-at n b old h m l =
-    let first : List ℕ = written 0 (tabulate n b) old in
-    let long : length first ≡ length old = length-written-tabulate 0 n b old (omega arith) in
-    elim (decLt m n) [
-      | yes s ↦ getD-written-before n (tabulate n b) first (omega arith) s ∙ getD-written-front n b old s ∙ ap b (sym (mod-eq-of-lt s))
-      | no g ↦
-          let e : m ≡ n + (m - n) = omega arith in
-          ap (λ (j : ℕ). getD (written n (tabulate n b) first) j 0) e
-          ∙ part-written n n b first {k = m - n} (omega arith) (omega arith)
-          ∙ ap b (sym (ap (λ (j : ℕ). j % n) e ∙ add-mod-left n (m - n) ∙ mod-eq-of-lt (omega arith)))
-    ]
+module _ (n : ℕ) (b : Element) (old : List ℕ) {first second : List ℕ} (d : first ≡ written 0 (tabulate n b) old) (e : second ≡ written n (tabulate n b) first) (h : n + n ≤ length old) where
+  pub twice-at : (m : ℕ) → m < n + n → getD second m 0 ≡ b (m % n)
+  twice-at m l =
+      let long : length first ≡ length old = ap length d ∙ length-written-tabulate 0 n b old (omega arith) in
+      elim (decLt m n) [
+        | yes s ↦ rw (e, getD-written-before n (tabulate n b) first (omega arith) s, d, getD-written-front n b old s, mod-eq-of-lt s)
+        | no g ↦
+            let f : m ≡ n + (m - n) = omega arith in
+            let r : m % n ≡ m - n = ap (λ (j : ℕ). j % n) f ∙ add-mod-left n (m - n) ∙ mod-eq-of-lt (omega arith) in
+            rw (e, r) (ap (λ (j : ℕ). getD (written n (tabulate n b) first) j 0) f ∙ part-written n n b first {k = m - n} (omega arith) (omega arith))
+      ]
+
+  pub twice-below : (q : ℕ) → InRing q n b → InRing q (n + n) (elementOf second)
+  twice-below q g m l = rw (twice-at m l) (g (m % n) (mod-lt m (omega arith)))
+
+-- the sums reduced are the product and c
+pub rows-reduced : (n q at : ℕ) (a b : Element) (twice low high work : List ℕ) {work′ : List ℕ} → ((m : ℕ) → m < n + n → getD twice m 0 ≡ b (m % n)) → ((k : ℕ) → k < n → Halves (sum n (rowTerm n a twice k)) (getD low k 0) (getD high k 0)) → work′ ≡ written at (tabulate n (λ k. (getD low k 0 + 4398046511104 * getD high k 0 + part work at k) % q)) work → work′ ≡ written at (tabulate n (λ k. (conv n a b k + part work at k) % q)) work
+rows-reduced n q at a b twice low high work t h e =
+    e ∙ ap (λ (l : List ℕ). written at l work) (tabulate-cong n (λ k l. ap (λ (x : ℕ). (x + part work at k) % q) (h k l .whole ∙ rows-conv n a b twice t l)))

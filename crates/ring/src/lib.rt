@@ -15,33 +15,21 @@ pub fn sum(a: u32, b: u32, q: u32) -> u32
     ensures { λ r. ⌜ r ≡ (a + b) % q ⌝ }
 {
     let s = a + b;
-    if s < q {
-        s
-    } else {
-        s - q
-    }
+    if s < q { s } else { s - q }
 }
 
 // n - i, or 0 past n.
 fn row_start(n: usize, i: usize) -> usize
     ensures { λ r. ⌜ r ≡ n - i ⌝ }
 {
-    if i < n {
-        n - i
-    } else {
-        0
-    }
+    if i < n { n - i } else { 0 }
 }
 
 fn factor(work: &[u32], a: usize, n: usize, i: usize) -> u32
     requires { ⌜ a + n ≤ length (now work) ⌝ }
     ensures { λ r. ⌜ r ≡ padded n (part (now (work .entry)) a) i ⌝ }
 {
-    if i < n {
-        work[a + i]
-    } else {
-        0
-    }
+    if i < n { work[a + i] } else { 0 }
 }
 
 fn copy(to: &mut [u64], at: usize, work: &[u32], from: usize, n: usize)
@@ -97,10 +85,24 @@ fn row_sum(f: Factors, twice: &[u64], n: usize, i: usize, k: usize) -> u64
     let r1 = row_start(n, i + 1);
     let r2 = row_start(n, i + 2);
     let r3 = row_start(n, i + 3);
-    products(f, twice[r0 + k], twice[r1 + k], twice[r2 + k], twice[r3 + k])
+    products(
+        f,
+        twice[r0 + k],
+        twice[r1 + k],
+        twice[r2 + k],
+        twice[r3 + k],
+    )
 }
 
-fn add_rows(low: &mut [u64], high: &mut [u64], work: &[u32], a: usize, twice: &[u64], n: usize, i: usize)
+fn add_rows(
+    low: &mut [u64],
+    high: &mut [u64],
+    work: &[u32],
+    a: usize,
+    twice: &[u64],
+    n: usize,
+    i: usize,
+)
     requires { ⌜ (a + n ≤ length (now work)) × (n ≤ length (now low)) × (n ≤ length (now high)) × (n + n ≤ length (now twice)) × (i < n) ⌝ }
     requires { ⌜ InRing 2147483648 n (part (now work) a) × InRing 2147483648 (n + n) (elementOf (now twice)) ⌝ }
     requires { ⌜ InRing 9223372036854775808 n (elementOf (now low)) × InRing 9223372036854775808 n (elementOf (now high)) ⌝ }

@@ -30,9 +30,10 @@ loop-holds c = (omega arith, writing-none _ _ _, writing-none _ _ _)
 
 row-sum-requires : tie.Need-row-sum-requires Inv-loop μ-loop
 row-sum-requires c κs =
-    let start = c .before .before .before .before .before .before .before in
-    (rw (c .before .before .factors-from .ensures) (factors-below _ _ (start .pre .1 .0 .0) (lit< tt) (start .args .i)),
-    (omega arith, omega arith, omega arith, start .pre .1 .0 .1))
+    let start = c .before .before .before .before .before .before .before in (
+      rw (c .before .before .factors-from .ensures) (factors-below _ _ (start .pre .1 .0 .0) (lit< tt) (start .args .i)),
+      (omega arith, omega arith, omega arith, start .pre .1 .0 .1),
+    )
 
 four-rows : (c : tie.After-row-sum Inv-loop μ-loop) → c .row-sum .result ≡ fourRows (c .before .before .before .before .before .before .before .before .args .n) (part (c .before .before .before .before .before .before .before .before .args .work .now) (c .before .before .before .before .before .before .before .before .args .a)) (c .before .before .before .before .before .before .before .before .args .twice .now) (c .before .before .before .before .before .before .before .before .args .i) (c .before .before .loop .k)
 four-rows c =
@@ -84,10 +85,11 @@ loop-less c = omega arith
 loop-again : tie.Need-loop-again Inv-loop μ-loop
 loop-again c =
     let l = c .before .before .before .before .loop in
-    let four = four-rows (c .before .before) in
-    (omega arith,
-    writing-more (l .inv .1) (sym (zero-add (l .k))) (omega arith) (ap₂ (λ (x y : ℕ). x + y % 4398046511104) (writing-ahead (l .k) (l .inv .1) (omega arith) (omega arith)) four),
-    writing-more (l .inv .2) (sym (zero-add (l .k))) (omega arith) (ap₂ (λ (x y : ℕ). x + y / 4398046511104) (writing-ahead (l .k) (l .inv .2) (omega arith) (omega arith)) four))
+    let four = four-rows (c .before .before) in (
+      omega arith,
+      writing-more (l .inv .1) (sym (zero-add (l .k))) (omega arith) (ap₂ (λ (x y : ℕ). x + y % 4398046511104) (writing-ahead (l .k) (l .inv .1) (omega arith) (omega arith)) four),
+      writing-more (l .inv .2) (sym (zero-add (l .k))) (omega arith) (ap₂ (λ (x y : ℕ). x + y / 4398046511104) (writing-ahead (l .k) (l .inv .2) (omega arith) (omega arith)) four),
+    )
 
 same-length : tie.Need-same-length Inv-loop μ-loop
 same-length c = omega arith

@@ -38,9 +38,12 @@ loop-again : tie.Need-loop-again Inv-loop μ-loop
 loop-again c =
     let start = c .before .before .before .before .before .before .before .before .before .before .before .before .before in
     let l = c .before .before .before .before .before .before .before .before .loop in
-    let call = c .before .before .before .before .add-rows in
-    (omega arith, omega (arith, call .kept), omega (arith, call .kept),
-    rows-more (start .args .n) (part (start .args .work .now) (start .args .a)) (start .args .twice .now) (l .low) (l .high) (start .pre .1 .0 .0) (start .pre .1 .0 .1) (omega arith) (call .ensures .0) (call .ensures .1) (l .inv .3))
+    let call = c .before .before .before .before .add-rows in (
+      omega arith,
+      omega (arith, call .kept),
+      omega (arith, call .kept),
+      rows-more (start .args .n) (part (start .args .work .now) (start .args .a)) (start .args .twice .now) (l .low) (l .high) (start .pre .1 .0 .0) (start .pre .1 .0 .1) (omega arith) (call .ensures .0) (call .ensures .1) (l .inv .3),
+    )
 
 same-length : tie.Need-same-length Inv-loop μ-loop
 same-length c = omega arith

@@ -67,10 +67,11 @@ loop-again : tie.Need-loop-again Inv-loop μ-loop
 loop-again c =
     let a = c .before .before .before .before .before .before .before .before .before .args in
     let l = c .before .before .before .before .before .loop in
-    let h : ℕ = getD (a .low .now) (l .k) 0 + 4398046511104 * getD (a .high .now) (l .k) 0 in
-    (omega arith,
-    writing-more (l .inv .1) refl (omega arith)
-    (c .reduced .ensures ∙ ap (λ (x : ℕ). (h + x) % a .q) (writing-ahead (a .c + l .k) (l .inv .1) (omega arith) (omega arith))))
+    let h : ℕ = getD (a .low .now) (l .k) 0 + 4398046511104 * getD (a .high .now) (l .k) 0 in (
+      omega arith,
+      writing-more (l .inv .1) refl (omega arith)
+          (c .reduced .ensures ∙ ap (λ (x : ℕ). (h + x) % a .q) (writing-ahead (a .c + l .k) (l .inv .1) (omega arith) (omega arith))),
+    )
 
 same-length : tie.Need-same-length Inv-loop μ-loop
 same-length c = omega arith

@@ -69,12 +69,15 @@ products-requires c κs =
     let starts = c .before .before .before .before in
     let start = starts .before .before .before .before .before in
     let k = start .args .k in
-    let below = start .pre .1 .3 in
-    (start .pre .0,
-    (below (starts .before .before .before .row-start .result + k) (omega arith),
-    below (starts .before .before .row-start2 .result + k) (omega arith),
-    below (starts .before .row-start3 .result + k) (omega arith),
-    below (starts .row-start4 .result + k) (omega arith)))
+    let below = start .pre .1 .3 in (
+      start .pre .0,
+      (
+        below (starts .before .before .before .row-start .result + k) (omega arith),
+        below (starts .before .before .row-start2 .result + k) (omega arith),
+        below (starts .before .row-start3 .result + k) (omega arith),
+        below (starts .row-start4 .result + k) (omega arith),
+      ),
+    )
 
 returns : tie.Need-returns
 unfolding rowSum
