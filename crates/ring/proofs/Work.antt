@@ -1,7 +1,7 @@
 -- What stands where after a list was written over the work words: the list inside, the old words before and after it.
 -- A loop that writes one word a turn goes by `Writing`.
 -- Assumes nothing.
-use Prim.Native.Nat.{ℕ, zero, suc, _+_, _-_, _≤_, _<_}
+use Prim.Native.Nat.{ℕ, zero, suc, _+_, _-_, _≤_, _<_, zero-le}
 use native.Mathlib.Nat.{add-zero, zero-add, add-suc}
 use native.Mathlib.Numerals.{add-one}
 use native.Mathlib.Omega.{arith}
@@ -84,7 +84,11 @@ writing-all {at} {k} {n} {f} {old} w e = w .same ∙ ap (λ (m : ℕ). written a
 pub length-written-tabulate : (at k : ℕ) (f : ℕ → ℕ) (old : List ℕ) → at + k ≤ length old → length (written at (tabulate k f) old) ≡ length old
 length-written-tabulate at k f old h = length-written at (tabulate k f) old (subst (λ (m : ℕ). at + m ≤ length old) (sym (length-tabulate k f)) h)
 
--- ---- the element at an offset after another was written
+-- ---- the element at an offset
 pub part-written : (at n : ℕ) (f : ℕ → ℕ) (old : List ℕ) {k : ℕ} → at ≤ length old → k < n → part (written at (tabulate n f) old) at k ≡ f k
 part-written at n f old {k} h l =
     getD-written at (tabulate n f) old h (subst (λ (m : ℕ). k < m) (sym (length-tabulate n f)) l) ∙ getD-tabulate n f 0 l
+
+pub getD-written-front : (n : ℕ) (f : ℕ → ℕ) (old : List ℕ) {k : ℕ} → k < n → getD (written 0 (tabulate n f) old) k 0 ≡ f k
+getD-written-front n f old {k} l =
+    ap (λ (j : ℕ). getD (written 0 (tabulate n f) old) j 0) (sym (zero-add k)) ∙ part-written 0 n f old zero-le l

@@ -1,8 +1,8 @@
 -- `ring::row_sum` meets its contract: its four starts are those of the rows.
 -- Assumes nothing.
-use Prim.Native.Nat.{_+_}
 use native.Mathlib.Omega.{arith}
 use borrow.Author.Needs.{needs}
+use Prim.Native.Nat.{_+_}
 use Rattle.ring.specs.Work.{rowSum}
 use Rattle.ring.proofs.row_sum.Statement.{statement}
 use Rattle.ring.proofs.row_sum.Tie as tie
@@ -69,12 +69,15 @@ products-requires c κs =
     let starts = c .before .before .before .before in
     let start = starts .before .before .before .before .before in
     let k = start .args .k in
-    let below = start .pre .1 .3 in
-    (start .pre .0,
-    (below (starts .before .before .before .row-start .result + k) (omega arith),
-    below (starts .before .before .row-start2 .result + k) (omega arith),
-    below (starts .before .row-start3 .result + k) (omega arith),
-    below (starts .row-start4 .result + k) (omega arith)))
+    let below = start .pre .1 .3 in (
+      start .pre .0,
+      (
+        below (starts .before .before .before .row-start .result + k) (omega arith),
+        below (starts .before .before .row-start2 .result + k) (omega arith),
+        below (starts .before .row-start3 .result + k) (omega arith),
+        below (starts .row-start4 .result + k) (omega arith),
+      ),
+    )
 
 returns : tie.Need-returns
 unfolding rowSum
