@@ -32,7 +32,7 @@ fn factor(work: &[u32], a: usize, n: usize, i: usize) -> u32
     if i < n { work[a + i] } else { 0 }
 }
 
-fn copy(to: &mut [u64], at: usize, work: &[u32], from: usize, n: usize)
+pub fn copy(to: &mut [u64], at: usize, work: &[u32], from: usize, n: usize)
     requires { ⌜ (at + n ≤ length (now to)) × (from + n ≤ length (now work)) ⌝ }
     ensures { λ _. ⌜ now (to .exit) ≡ written at (tabulate n (part (now (work .entry)) from)) (now (to .entry)) ⌝ }
 {
@@ -44,14 +44,14 @@ fn copy(to: &mut [u64], at: usize, work: &[u32], from: usize, n: usize)
 }
 
 // The factors of four rows.
-struct Factors {
-    a0: u32,
-    a1: u32,
-    a2: u32,
-    a3: u32,
+pub struct Factors {
+    pub a0: u32,
+    pub a1: u32,
+    pub a2: u32,
+    pub a3: u32,
 }
 
-fn factors_from(work: &[u32], a: usize, n: usize, i: usize) -> Factors
+pub fn factors_from(work: &[u32], a: usize, n: usize, i: usize) -> Factors
     requires { ⌜ (a + n ≤ length (now work)) × (i < n) ⌝ }
     ensures { λ r. ⌜ r ≡ factorsFrom n (part (now (work .entry)) a) i ⌝ }
 {
@@ -76,7 +76,7 @@ fn products(f: Factors, b0: u64, b1: u64, b2: u64, b3: u64) -> u64
 }
 
 // Four rows, from row i on, at place k.
-fn row_sum(f: Factors, twice: &[u64], n: usize, i: usize, k: usize) -> u64
+pub fn row_sum(f: Factors, twice: &[u64], n: usize, i: usize, k: usize) -> u64
     requires { ⌜ (f .a0 < 2147483648) × (f .a1 < 2147483648) × (f .a2 < 2147483648) × (f .a3 < 2147483648) ⌝ }
     requires { ⌜ (n + n ≤ length (now twice)) × (i < n) × (k < n) × InRing 2147483648 (n + n) (elementOf (now twice)) ⌝ }
     ensures { λ r. ⌜ r ≡ rowSum f n (now (twice .entry)) i k ⌝ }
