@@ -34,16 +34,23 @@ fn all_rows(sums: &mut [u64], work: &[u32], b: usize, twice: &[u64], n: usize)
     }
 }
 
-// The sums added to the element at c and reduced.
+// A sum and x, reduced.
+fn reduced(rows: u64, x: u32, q: u32) -> u32
+    requires { ⌜ (rows < 9223372036854775808) × (0 < q) ⌝ }
+    ensures { λ r. ⌜ r ≡ (rows + x) % q ⌝ }
+{
+    let m = q as u64;
+    ((rows + x as u64) % m) as u32
+}
+
+// The same at each place of the element at c.
 fn reduce(work: &mut [u32], c: usize, n: usize, q: u32, sums: &[u64])
     requires { ⌜ (c + n ≤ length (now work)) × (n ≤ length (now sums)) × (0 < q) × InRing 9223372036854775808 n (elementOf (now sums)) ⌝ }
     ensures { λ _. ⌜ now (work .exit) ≡ written c (tabulate n (λ k. (getD (now (sums .entry)) k 0 + part (now (work .entry)) c k) % q)) (now (work .entry)) ⌝ }
 {
-    let m = q as u64;
     let mut k = 0;
     while k < n {
-        let s = sums[k] + work[c + k] as u64;
-        work[c + k] = (s % m) as u32;
+        work[c + k] = reduced(sums[k], work[c + k], q);
         k += 1;
     }
 }

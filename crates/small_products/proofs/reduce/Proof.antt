@@ -1,9 +1,8 @@
 -- `small_products::reduce` meets its contract: after k turns the first k words of the element are written.
 -- Assumes nothing.
-use Prim.Native.Nat.{ℕ, _+_, _-_, _%_, _≤_, _<_}
-use native.Mathlib.Nat.{mod-lt}
+use Prim.Native.Nat.{ℕ, _+_, _-_, _%_, _≤_}
 use native.Mathlib.Omega.{arith}
-use mathlib.Core.Path.{refl, ap}
+use mathlib.Core.Path.{refl, ap, _∙_}
 use lib.ListN.{getD}
 use Rattle.ring.specs.Work.{part}
 use Rattle.ring.proofs.Work.{Writing, writing-none, writing-more, writing-ahead, writing-all}
@@ -11,48 +10,33 @@ use Rattle.small_products.proofs.reduce.Statement.{statement}
 use Rattle.small_products.proofs.reduce.Tie as tie
 
 abbrev Inv-loop : tie.InvT-loop
-Inv-loop work₀ c n q sums m k₀ work k = (k ≤ n) × Writing c k (λ j. (getD sums j 0 + part work₀ c j) % q) work₀ work
+Inv-loop work₀ c n q sums k₀ work k = (k ≤ n) × Writing c k (λ j. (getD sums j 0 + part work₀ c j) % q) work₀ work
 
 abbrev μ-loop : tie.MeasureT-loop
-μ-loop work₀ c n q sums m k₀ work k = n - k
+μ-loop work₀ c n q sums k₀ work k = n - k
 
 loop-holds : tie.Need-loop-holds Inv-loop μ-loop
 loop-holds c = (omega arith, writing-none _ _ _)
 
-mul-s : tie.Need-mul-s Inv-loop μ-loop
-mul-s c = omega arith
+mul-reduced : tie.Need-mul-reduced Inv-loop μ-loop
+mul-reduced c = omega arith
 
-shared-slice-read-s : tie.Need-shared-slice-read-s Inv-loop μ-loop
-shared-slice-read-s c = omega arith
+shared-slice-read-reduced : tie.Need-shared-slice-read-reduced Inv-loop μ-loop
+shared-slice-read-reduced c = omega arith
 
-add-s : tie.Need-add-s Inv-loop μ-loop
-add-s c = omega arith
+add-reduced : tie.Need-add-reduced Inv-loop μ-loop
+add-reduced c = omega arith
 
-mul-s-2 : tie.Need-mul-s-2 Inv-loop μ-loop
-mul-s-2 c = omega arith
+mul-reduced-2 : tie.Need-mul-reduced-2 Inv-loop μ-loop
+mul-reduced-2 c = omega arith
 
-slice-read-s : tie.Need-slice-read-s Inv-loop μ-loop
-slice-read-s c = omega arith
+slice-read-reduced : tie.Need-slice-read-reduced Inv-loop μ-loop
+slice-read-reduced c = omega arith
 
-word : (c : tie.After-slice-known Inv-loop μ-loop) → getD (c .before .before .before .loop .work) (c .before .before .before .before .args .c + c .before .before .before .loop .k) 0 < 4294967296
-word c = omega (arith, c .slice-known .given (c .before .before .before .before .args .c + c .before .before .before .loop .k))
-
-cast-s : tie.Need-cast-s Inv-loop μ-loop
-cast-s c = omega (arith, word c)
-
-add-s-2 : tie.Need-add-s-2 Inv-loop μ-loop
-add-s-2 c =
-    let k = c .before .before .before .loop .k in
-    omega (arith, word c, c .before .before .before .before .pre .3 k (omega arith))
-
-rem-work : tie.Need-rem-work Inv-loop μ-loop
-rem-work c = omega arith
-
-cast-work : tie.Need-cast-work Inv-loop μ-loop
-cast-work c =
-    let start = c .before .before .before .before in
-    let k = c .before .before .before .loop .k in
-    omega (arith, mod-lt (getD (start .args .sums .now) k 0 + getD (c .before .before .before .loop .work) (start .args .c + k) 0) {m = start .args .q} (omega arith))
+reduced-requires : tie.Need-reduced-requires Inv-loop μ-loop
+reduced-requires c κs =
+    let start = c .before .before .before .before .before .before in
+    (start .pre .3 (c .before .before .before .loop .k) (omega arith), omega arith)
 
 add-work : tie.Need-add-work Inv-loop μ-loop
 add-work c = omega arith
@@ -71,12 +55,10 @@ loop-less c = omega arith
 
 loop-again : tie.Need-loop-again Inv-loop μ-loop
 loop-again c =
-    let a = c .before .before .before .before .args in
-    let l = c .before .before .before .loop in
-    let j = a .c + l .k in (
-      omega arith,
-      writing-more (l .inv .1) refl (omega arith) (ap (λ (x : ℕ). (getD (a .sums .now) (l .k) 0 + x) % a .q) (writing-ahead j (l .inv .1) (omega arith) (omega arith))),
-    )
+    let a = c .before .before .before .before .before .before .before .args in
+    let l = c .before .before .before .before .loop in
+    let ahead = writing-ahead (a .c + l .k) (l .inv .1) (omega arith) (omega arith) in
+    (omega arith, writing-more (l .inv .1) refl (omega arith) (c .reduced .ensures ∙ ap (λ (x : ℕ). (getD (a .sums .now) (l .k) 0 + x) % a .q) ahead))
 
 same-length : tie.Need-same-length Inv-loop μ-loop
 same-length c = omega arith
@@ -91,15 +73,12 @@ reduce-spec =
     Inv-loop
     μ-loop
     loop-holds
-    mul-s
-    shared-slice-read-s
-    add-s
-    mul-s-2
-    slice-read-s
-    cast-s
-    add-s-2
-    rem-work
-    cast-work
+    mul-reduced
+    shared-slice-read-reduced
+    add-reduced
+    mul-reduced-2
+    slice-read-reduced
+    reduced-requires
     add-work
     mul-work
     slice-write-work
