@@ -1,0 +1,2 @@
+-- Laws of the rows of a small element.
+pub mod Rows

@@ -1,0 +1,2 @@
+-- What the sums hold while rows are added.
+pub mod Rows
