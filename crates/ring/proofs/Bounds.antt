@@ -8,11 +8,11 @@ use lib.Dec.{lit≤}
 use Rattle.definitions.proofs.Congruence.{cong-refl, cong-mod, cong-add, cong-scale}
 use Rattle.ring.specs.Work.{Halves}
 
+pub product-le : {a b : ℕ} (p : ℕ) → a < 2147483648 → b ≤ p → a * b ≤ 2147483647 * p
+product-le {a} p h l = let x : a ≤ 2147483647 = omega arith in mul-le-mul x l
+
 pub product-small : {a b : ℕ} → a < 2147483648 → b < 2147483648 → a * b ≤ 4611686014132420609
-product-small {a} {b} h l =
-    let x : a ≤ 2147483647 = omega arith in
-    let y : b ≤ 2147483647 = omega arith in
-    mul-le-mul x y
+product-small h l = product-le 2147483647 h (omega arith)
 
 -- ---- a running sum of cut numbers: after i rows, four at a time, each half is at most what i / 4 halves can be
 pub record Summed (i total low high : ℕ) : Type 0 where
@@ -28,6 +28,14 @@ summed-more h l = record { whole = omega arith; low-bound = omega arith; high-bo
 
 pub summed-halves : {i total low high : ℕ} → Summed i total low high → i < 4100 → Halves total low high
 summed-halves h l = record { whole = h .whole; low-small = omega arith; high-small = omega arith }
+
+-- ---- the same where the sums are small and not cut
+pub record SmallSummed (i total low : ℕ) : Type 0 where
+  pub whole : low ≡ total
+  pub bound : low ≤ i * 32212254705
+
+pub small-halves : {i total low : ℕ} → SmallSummed i total low → i < 4100 → Halves total low 0
+small-halves h l = record { whole = omega arith; low-small = omega arith; high-small = omega arith }
 
 -- what is put together again fits a word
 pub folded-small : {high fold : ℕ} → high < 6442450944 → fold < 2147483648 → high * fold ≤ 13835058050987196416

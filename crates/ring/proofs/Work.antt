@@ -2,16 +2,17 @@
 -- A loop that writes one word a turn goes by `Writing`.
 -- Assumes nothing.
 use Prim.Native.Nat.{ℕ, zero, suc, _+_, _-_, _≤_, _<_, zero-le}
-use native.Mathlib.Nat.{add-zero, zero-add, add-suc}
+use native.Mathlib.Nat.{le-of-lt, add-zero, zero-add}
 use native.Mathlib.Numerals.{add-one}
 use native.Mathlib.Omega.{arith}
 use mathlib.Core.Path.{_≡_, refl, sym, _∙_, ap, subst}
+use mathlib.Core.Logic.{⊎-elim}
 use mathlib.Core.List.{List, [], _∷_, _++_, append-assoc}
 use lib.ListN.{length, getD, take, drop, set, length-append, length-set, length-take, length-drop, take-append-drop, List·getD-append}
-use lib.Seq.{drop-cons, set-at, getD-append-add, getD-take, getD-drop, length-take-le, ext-getD}
+use lib.Seq.{drop-cons, set-at, take-at, drop-at, getD-append-add, getD-take, getD-drop, length-take-le}
 use Rattle.definitions.specs.Sequences.{tabulate}
 use Rattle.definitions.proofs.Sums.{length-tabulate, getD-tabulate}
-use Rattle.ring.specs.Work.{part, written}
+use Rattle.ring.specs.Work.{part, written, Apart}
 
 pub tabulate-snoc : (n : ℕ) (f : ℕ → ℕ) → tabulate (suc n) f ≡ tabulate n f ++ (f n ∷ [])
 unfolding tabulate
@@ -92,3 +93,26 @@ part-written at n f old {k} h l =
 pub getD-written-front : (n : ℕ) (f : ℕ → ℕ) (old : List ℕ) {k : ℕ} → k < n → getD (written 0 (tabulate n f) old) k 0 ≡ f k
 getD-written-front n f old {k} l =
     ap (λ (j : ℕ). getD (written 0 (tabulate n f) old) j 0) (sym (zero-add k)) ∙ part-written 0 n f old zero-le l
+
+-- a part that was not written
+pub part-apart : (at from j n : ℕ) (f : ℕ → ℕ) (old : List ℕ) {k : ℕ} → j ≤ n → at + n ≤ length old → Apart at from n → k < n → part (written at (tabulate j f) old) from k ≡ part old from k
+part-apart at from j n f old {k} g h apart l =
+    let e = length-tabulate j f in
+    ⊎-elim
+    (λ (s : at + n ≤ from). getD-written-after at (tabulate j f) old (omega arith) (omega arith))
+    (λ (s : from + n ≤ at). getD-written-before at (tabulate j f) old (omega arith) (omega arith))
+    apart
+
+pub writing-apart : {at k : ℕ} {f : ℕ → ℕ} {old new : List ℕ} (from n : ℕ) → Writing at k f old new → at + n ≤ length old → Apart at from n → k < n → part new from k ≡ part old from k
+writing-apart {at} {k} {f} {old} from n w h apart l = ap (λ (x : List ℕ). part x from k) (w .same) ∙ part-apart at from k n f old (le-of-lt l) h apart l
+
+-- what is written over what was written
+pub written-written : (at : ℕ) (new mid old : List ℕ) → length new ≡ length mid → at + length mid ≤ length old → written at new (written at mid old) ≡ written at new old
+unfolding written
+written-written at new mid old e h =
+    let front : length (take at old) ≡ at = length-take-le at old (omega arith) in
+    let head : List ℕ = take at old ++ mid in
+    let place : length head ≡ at + length new = length-append (take at old) mid ∙ omega arith in
+    let rest : List ℕ = drop (at + length mid) old in
+    let tail : drop (at + length new) (take at old ++ (mid ++ rest)) ≡ rest = rw (← append-assoc (take at old) mid rest) (drop-at head rest (at + length new) place) in
+    rw (take-at (take at old) (mid ++ rest) at front, tail, e)

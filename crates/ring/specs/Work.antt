@@ -2,6 +2,7 @@
 --
 --   part             the element that stands at an offset
 --   written          the words with a list written over them from an offset on; all others as they were
+--   Apart            two parts of n words have no word in common
 --   padded           an element followed by zeros: the factors of the rows past the last
 --   rowTerm          what row i of a product a × b adds at place k, read from a list in which b stands twice in a row
 --   factorsFrom      the factors of the four rows from i on
@@ -9,8 +10,9 @@
 --   Halves           a number cut at 2^42: low + 2^42 × high, both small enough to be put together again below 2^64
 --
 -- Assumes nothing.
-use Prim.Native.Nat.{ℕ, _+_, _-_, _*_, _<_}
+use Prim.Native.Nat.{ℕ, _+_, _-_, _*_, _≤_, _<_}
 use mathlib.Core.Path.{_≡_}
+use mathlib.Core.Logic.{_⊎_}
 use mathlib.Core.Bool.{cond}
 use mathlib.Core.List.{List, _++_}
 use lib.Dec.{ltb}
@@ -23,6 +25,9 @@ part work at k = getD work (at + k) 0
 
 unfoldable pub written : ℕ → List ℕ → List ℕ → List ℕ
 written at new old = take at old ++ (new ++ drop (at + length new) old)
+
+abbrev pub Apart : ℕ → ℕ → ℕ → Type 0
+Apart a b n = (a + n ≤ b) ⊎ (b + n ≤ a)
 
 unfoldable pub padded : ℕ → Element → Element
 padded n a i = cond (ltb i n) (a i) 0

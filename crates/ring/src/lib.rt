@@ -3,8 +3,8 @@ ghost use mathlib.Core.Path.{_≡_};
 ghost use Prim.Native.Nat.{ℕ, _+_, _-_, _*_, _%_, _/_, _<_, _≤_};
 ghost use lib.ListN.{length, getD, replicate};
 ghost use Rattle.definitions.specs.Sequences.{sum, tabulate};
-ghost use Rattle.definitions.specs.Ring.{conv, InRing, elementOf};
-ghost use Rattle.ring.specs.Work.{part, written, padded, factorsFrom, rowTerm, rowSum, fourRows, Halves};
+ghost use Rattle.definitions.specs.Ring.{scale, conv, InRing, elementOf};
+ghost use Rattle.ring.specs.Work.{part, written, Apart, padded, factorsFrom, rowTerm, rowSum, fourRows, Halves};
 
 // Where a sum of four products is cut into a low and a high half: 2^42.
 const CUT: u64 = 4398046511104;
@@ -32,7 +32,7 @@ fn factor(work: &[u32], a: usize, n: usize, i: usize) -> u32
     if i < n { work[a + i] } else { 0 }
 }
 
-pub fn copy(to: &mut [u64], at: usize, work: &[u32], from: usize, n: usize)
+fn copy(to: &mut [u64], at: usize, work: &[u32], from: usize, n: usize)
     requires { ⌜ (at + n ≤ length (now to)) × (from + n ≤ length (now work)) ⌝ }
     ensures { λ _. ⌜ now (to .exit) ≡ written at (tabulate n (part (now (work .entry)) from)) (now (to .entry)) ⌝ }
 {
@@ -43,15 +43,24 @@ pub fn copy(to: &mut [u64], at: usize, work: &[u32], from: usize, n: usize)
     }
 }
 
-// The factors of four rows.
-pub struct Factors {
-    pub a0: u32,
-    pub a1: u32,
-    pub a2: u32,
-    pub a3: u32,
+// The element at b, twice in a row: the row of a_i then starts at n - i and needs no wrap.
+fn copy_twice(twice: &mut [u64], work: &[u32], b: usize, n: usize)
+    requires { ⌜ (n + n ≤ length (now twice)) × (b + n ≤ length (now work)) ⌝ }
+    ensures { λ _. ⌜ ((m : ℕ) → m < n + n → getD (now (twice .exit)) m 0 ≡ part (now (work .entry)) b (m % n)) ⌝ }
+{
+    copy(twice, 0, work, b, n);
+    copy(twice, n, work, b, n);
 }
 
-pub fn factors_from(work: &[u32], a: usize, n: usize, i: usize) -> Factors
+// The factors of four rows.
+struct Factors {
+    a0: u32,
+    a1: u32,
+    a2: u32,
+    a3: u32,
+}
+
+fn factors_from(work: &[u32], a: usize, n: usize, i: usize) -> Factors
     requires { ⌜ (a + n ≤ length (now work)) × (i < n) ⌝ }
     ensures { λ r. ⌜ r ≡ factorsFrom n (part (now (work .entry)) a) i ⌝ }
 {
@@ -76,7 +85,7 @@ fn products(f: Factors, b0: u64, b1: u64, b2: u64, b3: u64) -> u64
 }
 
 // Four rows, from row i on, at place k.
-pub fn row_sum(f: Factors, twice: &[u64], n: usize, i: usize, k: usize) -> u64
+fn row_sum(f: Factors, twice: &[u64], n: usize, i: usize, k: usize) -> u64
     requires { ⌜ (f .a0 < 2147483648) × (f .a1 < 2147483648) × (f .a2 < 2147483648) × (f .a3 < 2147483648) ⌝ }
     requires { ⌜ (n + n ≤ length (now twice)) × (i < n) × (k < n) × InRing 2147483648 (n + n) (elementOf (now twice)) ⌝ }
     ensures { λ r. ⌜ r ≡ rowSum f n (now (twice .entry)) i k ⌝ }
@@ -163,10 +172,93 @@ pub fn multiply_add(work: &mut [u32], a: usize, b: usize, c: usize, n: usize, q:
     ensures { λ _. ⌜ now (work .exit) ≡ written c (tabulate n (λ k. (conv n (part (now (work .entry)) a) (part (now (work .entry)) b) k + part (now (work .entry)) c k) % q)) (now (work .entry)) ⌝ }
 {
     let mut twice = [0u64; 8192];
-    copy(&mut twice, 0, work, b, n);
-    copy(&mut twice, n, work, b, n);
+    copy_twice(&mut twice, work, b, n);
     let mut low = [0u64; 4096];
     let mut high = [0u64; 4096];
     all_rows(&mut low, &mut high, work, a, &twice, n);
     reduce(work, c, n, q, &low, &high);
+}
+
+// The same rows where the other factor is small: one sum, not cut.
+fn add_small_rows(low: &mut [u64], work: &[u32], a: usize, twice: &[u64], n: usize, i: usize)
+    requires { ⌜ (a + n ≤ length (now work)) × (n ≤ length (now low)) × (n + n ≤ length (now twice)) × (i < n) ⌝ }
+    requires { ⌜ InRing 2147483648 n (part (now work) a) × InRing 16 (n + n) (elementOf (now twice)) × InRing 18014398509481984 n (elementOf (now low)) ⌝ }
+    ensures { λ _. ⌜ now (low .exit) ≡ written 0 (tabulate n (λ k. getD (now (low .entry)) k 0 + fourRows n (part (now (work .entry)) a) (now (twice .entry)) i k)) (now (low .entry)) ⌝ }
+{
+    let f = factors_from(work, a, n, i);
+    let mut k = 0;
+    while k < n {
+        low[k] = low[k] + row_sum(f, twice, n, i, k);
+        k += 1;
+    }
+}
+
+fn all_small_rows(low: &mut [u64], work: &[u32], a: usize, twice: &[u64], n: usize)
+    requires { ⌜ (a + n ≤ length (now work)) × (n ≤ length (now low)) × (n + n ≤ length (now twice)) × (n ≤ 4096) ⌝ }
+    requires { ⌜ InRing 2147483648 n (part (now work) a) × InRing 16 (n + n) (elementOf (now twice)) × InRing 1 n (elementOf (now low)) ⌝ }
+    ensures { λ _. ⌜ ((k : ℕ) → k < n → Halves (sum n (rowTerm n (part (now (work .entry)) a) (now (twice .entry)) k)) (getD (now (low .exit)) k 0) 0) ⌝ }
+{
+    let mut i = 0;
+    while i < n {
+        add_small_rows(low, work, a, twice, n, i);
+        i += 4;
+    }
+}
+
+// As multiply_add, where the coefficients of b are below 16.
+pub fn multiply_add_small(work: &mut [u32], a: usize, b: usize, c: usize, n: usize, q: u32)
+    requires { ⌜ (a + n ≤ length (now work)) × (b + n ≤ length (now work)) × (c + n ≤ length (now work)) × (n ≤ 4096) × (0 < q) × (q < 2147483648) ⌝ }
+    requires { ⌜ InRing q n (part (now work) a) × InRing 16 n (part (now work) b) ⌝ }
+    ensures { λ _. ⌜ now (work .exit) ≡ written c (tabulate n (λ k. (conv n (part (now (work .entry)) a) (part (now (work .entry)) b) k + part (now (work .entry)) c k) % q)) (now (work .entry)) ⌝ }
+{
+    let mut twice = [0u64; 8192];
+    copy_twice(&mut twice, work, b, n);
+    let mut low = [0u64; 4096];
+    let high = [0u64; 4096];
+    all_small_rows(&mut low, work, a, &twice, n);
+    reduce(work, c, n, q, &low, &high);
+}
+
+// In place c := c + l × e in R_q, where each l × e_k is below q.
+pub fn add_scaled(work: &mut [u32], c: usize, e: usize, l: u32, n: usize, q: u32)
+    requires { ⌜ (c + n ≤ length (now work)) × (e + n ≤ length (now work)) × Apart c e n × (q < 2147483648) ⌝ }
+    requires { ⌜ InRing q n (part (now work) c) × InRing q n (scale l (part (now work) e)) ⌝ }
+    ensures { λ _. ⌜ now (work .exit) ≡ written c (tabulate n (λ k. (part (now (work .entry)) c k + l * part (now (work .entry)) e k) % q)) (now (work .entry)) ⌝ }
+{
+    let mut k = 0;
+    while k < n {
+        work[c + k] = sum(work[c + k], l * work[e + k], q);
+        k += 1;
+    }
+}
+
+// The negative of a coefficient.
+fn negative(a: u32, q: u32) -> u32
+    requires { ⌜ a < q ⌝ }
+    ensures { λ r. ⌜ r ≡ (q - a) % q ⌝ }
+{
+    if a == 0 { 0 } else { q - a }
+}
+
+// In place a := -a in R_q.
+pub fn negate(work: &mut [u32], a: usize, n: usize, q: u32)
+    requires { ⌜ (a + n ≤ length (now work)) × InRing q n (part (now work) a) ⌝ }
+    ensures { λ _. ⌜ now (work .exit) ≡ written a (tabulate n (λ k. (q - part (now (work .entry)) a k) % q)) (now (work .entry)) ⌝ }
+{
+    let mut k = 0;
+    while k < n {
+        work[a + k] = negative(work[a + k], q);
+        k += 1;
+    }
+}
+
+// All words 0.
+pub fn clear(work: &mut [u32])
+    ensures { λ _. ⌜ now (work .exit) ≡ replicate (length (now (work .entry))) 0 ⌝ }
+{
+    let mut k = 0;
+    while k < work.len() {
+        work[k] = 0;
+        k += 1;
+    }
 }

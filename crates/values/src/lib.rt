@@ -36,28 +36,3 @@ fn keep(work: &mut [u32], to: usize, n: usize)
         k += 1;
     }
 }
-
-// One term of total degree k - 1: its coefficient and u_x times the term of total degree k at the same place.
-fn fold_term(octets: &[u8], element: usize, j: usize, n: usize, qlen: usize, q: u32, work: &mut [u32])
-    requires { ⌜ Sizes n qlen (now work) × (element < 15) × (element * n * qlen + n * qlen ≤ length (now octets)) × (j < 5) × (0 < q) × (q < 2147483648) ⌝ }
-    requires { ⌜ InRing q n (slot n (now work) j) × InRing 16 n (part (now work) 0) ⌝ }
-    ensures { λ _. ⌜ Placed n ((2 + j) * n) (λ k. (conv n (slot n (now (work .entry)) j) (part (now (work .entry)) 0) k + flat n qlen (now (octets .entry)) element k) % q) (now (work .entry)) (now (work .exit)) ⌝ }
-{
-    load(octets, element, n, qlen, work, 7 * n);
-    let at = (2 + j) * n;
-    small_products::multiply_add_small(work, at, 0, 7 * n, n, q);
-    keep(work, at, n);
-}
-
-// The last term of total degree k - 1, y^(k-1): u_y times y^k comes to it as well.
-fn fold_last(octets: &[u8], element: usize, j: usize, n: usize, qlen: usize, q: u32, work: &mut [u32])
-    requires { ⌜ Sizes n qlen (now work) × (element < 15) × (element * n * qlen + n * qlen ≤ length (now octets)) × (j < 4) × (0 < q) × (q < 2147483648) ⌝ }
-    requires { ⌜ InRing q n (slot n (now work) j) × InRing q n (slot n (now work) (j + 1)) × InRing 16 n (part (now work) 0) × InRing 16 n (part (now work) n) ⌝ }
-    ensures { λ _. ⌜ Placed n ((2 + j) * n) (λ k. (conv n (slot n (now (work .entry)) j) (part (now (work .entry)) 0) k + conv n (slot n (now (work .entry)) (j + 1)) (part (now (work .entry)) n) k + flat n qlen (now (octets .entry)) element k) % q) (now (work .entry)) (now (work .exit)) ⌝ }
-{
-    load(octets, element, n, qlen, work, 7 * n);
-    let at = (2 + j) * n;
-    small_products::multiply_add_small(work, at, 0, 7 * n, n, q);
-    small_products::multiply_add_small(work, at + n, n, 7 * n, n, q);
-    keep(work, at, n);
-}

@@ -1,7 +1,7 @@
 -- `ring::add_rows` meets its contract: at each place the sum of the four rows is cut, and each half goes to its word.
 -- Assumes nothing.
 use native.Mathlib.Omega.{arith}
-use Prim.Native.Nat.{ℕ, _+_, _-_, _*_, _%_, _/_, _≤_}
+use Prim.Native.Nat.{ℕ, _+_, _-_, _%_, _/_, _≤_}
 use native.Mathlib.Nat.{zero-add}
 use mathlib.Core.Path.{_≡_, sym, ap, ap₂, _∙_}
 use lib.ListN.{getD}

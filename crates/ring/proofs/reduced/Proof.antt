@@ -4,7 +4,7 @@ use native.Mathlib.Omega.{arith}
 use borrow.Author.Needs.{needs}
 use Prim.Native.Nat.{ℕ, _+_, _*_, _%_, _≤_}
 use native.Mathlib.Nat.{mod-lt, lt-trans}
-use mathlib.Core.Path.{_≡_, ap, _∙_}
+use mathlib.Core.Path.{ap, _∙_}
 use Rattle.ring.proofs.Bounds.{folded-small, folded-cong}
 use Rattle.ring.proofs.reduced.Statement.{statement}
 use Rattle.ring.proofs.reduced.Tie as tie

@@ -1,6 +1,5 @@
 -- `ring::sum` meets its contract: a sum of two numbers below q is below 2q, so at most one q is to be taken off.
 -- Assumes nothing.
-use Prim.Native.Nat.{_-_, _<_}
 use native.Mathlib.Nat.{mod-eq-of-lt, mod-eq-sub-mod}
 use native.Mathlib.Omega.{arith}
 use mathlib.Core.Path.{sym, _∙_}

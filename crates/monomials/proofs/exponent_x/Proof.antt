@@ -1,0 +1,26 @@
+-- `monomials::exponent_x` meets its contract: the rule of the table is a test at each place of each list, which is computed.
+-- Assumes nothing.
+use native.Mathlib.Omega.{arith}
+use borrow.Author.Needs.{needs}
+use Rattle.monomials.proofs.Table.{x-at}
+use Rattle.monomials.proofs.exponent_x.Statement.{statement}
+use Rattle.monomials.proofs.exponent_x.Tie as tie
+
+start-requires : tie.Need-start-requires
+start-requires c κs = search needs
+
+add-result : tie.Need-add-result
+add-result c = search needs
+
+mul-result : tie.Need-mul-result
+mul-result c = search needs
+
+array-read-result : tie.Need-array-read-result
+array-read-result c = search needs
+
+returns : tie.Need-returns
+returns c = x-at (c .start .result) (c .before .args .d) (c .before .args .i) (c .start .ensures) (omega arith) (c .before .pre .1)
+
+pub exponent-x-spec : {M : Type 1} → statement M
+exponent-x-spec =
+    tie.close (tie.spec start-requires add-result mul-result array-read-result returns)

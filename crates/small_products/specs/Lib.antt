@@ -1,2 +1,0 @@
--- What the sums hold while rows are added.
-pub mod Rows
