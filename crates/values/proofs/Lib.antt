@@ -1,3 +1,4 @@
 pub mod Folding
 pub mod Parts
 pub mod Turns
+pub mod Degrees

@@ -10,6 +10,7 @@ ghost use Rattle.definitions.specs.Sequences.{tabulate};
 ghost use Rattle.definitions.specs.Parameters.{monomialCount};
 ghost use Rattle.definitions.specs.Ring.{InRing, conv};
 ghost use Rattle.definitions.specs.Monomials.{value};
+ghost use Rattle.definitions.specs.Octets.{coefficientAt, decoded};
 ghost use Rattle.ring.specs.Work.{part, written};
 ghost use Rattle.values.specs.Folding.{Sizes, flat, slot, Placed, FoldedDegree};
 
@@ -75,4 +76,33 @@ fn fold_degree(octets: &[u8], from: usize, k: usize, n: usize, qlen: usize, q: u
         j += 1;
     }
     fold_last(octets, from + j, j, n, qlen, q, work);
+}
+
+// The terms of the highest total degree, which stand first, into their parts.
+fn load_highest(octets: &[u8], d: usize, n: usize, qlen: usize, work: &mut [u32])
+    requires { ⌜ Sizes n qlen (now work) × (d ≤ 4) × ((d + 1) * n * qlen ≤ length (now octets)) ⌝ }
+    ensures { λ _. ⌜ now (work .exit) ≡ written (2 * n) (decoded qlen ((d + 1) * n) (now (octets .entry))) (now (work .entry)) ⌝ }
+{
+    let count = (d + 1) * n;
+    let end = count * qlen;
+    let at = 2 * n;
+    let stop = at + count;
+    octets::decode(&octets[..end], qlen, &mut work[at..stop]);
+}
+
+// The value of the polynomial of degree d in the octets, into the third part.
+pub fn evaluate(octets: &[u8], d: usize, n: usize, qlen: usize, q: u32, work: &mut [u32])
+    requires { ⌜ Sizes n qlen (now work) × (0 < d) × (d ≤ 4) × (length (now octets) ≡ monomialCount d * n * qlen) × (0 < q) × (q < 2147483648) ⌝ }
+    requires { ⌜ ((m : ℕ) → m < monomialCount d * n → coefficientAt qlen (now octets) m < q) ⌝ }
+    requires { ⌜ InRing 16 n (part (now work) 0) × InRing 16 n (part (now work) n) ⌝ }
+    ensures { λ _. ⌜ ((k : ℕ) → k < n → part (now (work .exit)) (2 * n) k ≡ value n d (flat n qlen (now (octets .entry))) (part (now (work .entry)) 0) (part (now (work .entry)) n) k % q) ⌝ }
+{
+    load_highest(octets, d, n, qlen, work);
+    let mut k = d;
+    let mut from = d + 1;
+    while 0 < k {
+        fold_degree(octets, from, k, n, qlen, q, work);
+        from += k;
+        k -= 1;
+    }
 }
