@@ -51,19 +51,19 @@ module _ {n q k j : ℕ} {rest : Polynomial} {old now : List ℕ} (h : Halfway n
   halfway-more f new few most p len same =
       record {
         folded = λ i l m s.
-          elim (ℕ-discrete i j) [
-            | yes e ↦ subst (λ (x : ℕ). slot n new x m ≡ termAt n q k rest old x m) (sym e) (p .placed m s ∙ same m s)
-            | no g ↦ let before : i < j = omega arith in
-                p .kept ((2 + i) * n + m) (inside i m s (omega arith)) (inl (slots-apart n i j m before s)) ∙ h .folded i before m s
-          ];
+            elim (ℕ-discrete i j) [
+              | yes e ↦ subst (λ (x : ℕ). slot n new x m ≡ termAt n q k rest old x m) (sym e) (p .placed m s ∙ same m s)
+              | no g ↦ let before : i < j = omega arith in
+                  p .kept ((2 + i) * n + m) (inside i m s (omega arith)) (inl (slots-apart n i j m before s)) ∙ h .folded i before m s
+            ];
         ahead = λ i lo hi m s.
-          let room : (2 + j) * n + n ≤ (2 + i) * n = slot-room n (2 + j) (2 + i) (omega arith) in
-          p .kept ((2 + i) * n + m) (inside i m s (omega arith)) (inr (omega arith)) ∙ h .ahead i (omega arith) hi m s;
+            let room : (2 + j) * n + n ≤ (2 + i) * n = slot-room n (2 + j) (2 + i) (omega arith) in
+            p .kept ((2 + i) * n + m) (inside i m s (omega arith)) (inr (omega arith)) ∙ h .ahead i (omega arith) hi m s;
         secret = λ i l.
-          let low : 2 * n ≤ (2 + j) * n = mul-le-mul-right n (omega arith) in
-          let most : 2 * n ≤ 7 * n = mul-le-mul-right n (omega arith) in
-          p .kept i (omega arith) (inl (omega arith)) ∙ h .secret i l;
-        as-long = len ∙ h .as-long
+            let low : 2 * n ≤ (2 + j) * n = mul-le-mul-right n (omega arith) in
+            let most : 2 * n ≤ 7 * n = mul-le-mul-right n (omega arith) in
+            p .kept i (omega arith) (inl (omega arith)) ∙ h .secret i l;
+        as-long = len ∙ h .as-long;
       }
     where
       inside : (i m : ℕ) → m < n → i < 5 → (2 + i) * n + m < 7 * n
@@ -81,7 +81,7 @@ module _ {n q k j : ℕ} {rest : Polynomial} {old now : List ℕ} (h : Halfway n
       → (conv n (slot n now j) (part now 0) m + conv n (slot n now (j + 1)) (part now n) m + x) % q ≡ termAt n q k rest old j m
   halfway-last l x m s e =
       let y : conv n (slot n now (j + 1)) (part now n) m ≡ conv n (slot n old k) (part old n) m =
-          conv-cong n (λ i u. h .ahead (j + 1) (omega arith) (omega arith) i u ∙ ap (λ (z : ℕ). slot n old z i) l) (λ i u. h .secret (n + i) (omega arith)) m in
+      conv-cong n (λ i u. h .ahead (j + 1) (omega arith) (omega arith) i u ∙ ap (λ (z : ℕ). slot n old z i) l) (λ i u. h .secret (n + i) (omega arith)) m in
       rw (eq-eqb (j + 1) k l, e, same-x (omega arith) m, y)
 
   pub halfway-all : j ≡ k → FoldedDegree n q k rest old now

@@ -45,7 +45,7 @@ move : (n : ℕ) (u a b c : Element) → ((i : ℕ) → conv n u b i ≡ c i) �
 move n u a b c h k =
     conv-cong n (λ i l. conv-comm n u a i) (λ i l. refl) k ∙ conv-assoc n a u b k ∙ conv-cong n (λ i l. refl) (λ i l. h i) k
 
-degree-lt-count : (d : ℕ) → d < monomialCount d
+pub degree-lt-count : (d : ℕ) → d < monomialCount d
 degree-lt-count zero = monomialCount-pos zero
 degree-lt-count (suc d) = omega (arith, monomialCount-suc d, monomialCount-pos d)
 

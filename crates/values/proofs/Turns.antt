@@ -30,7 +30,7 @@ module _ (n : ℕ) (old : List ℕ) (room : length old ≡ 8 * n) where
       record {
         spare = λ k l. ap (λ (w : List ℕ). part w (7 * n) k) e ∙ part-written (7 * n) n f old (omega arith) l;
         kept = λ i l. ap (λ (w : List ℕ). getD w i 0) e ∙ getD-written-before (7 * n) (tabulate n f) old (omega arith) l;
-        as-long = ap length e ∙ length-written-tabulate (7 * n) n f old (omega arith)
+        as-long = ap length e ∙ length-written-tabulate (7 * n) n f old (omega arith);
       }
 
   module _ {f : Element} {mid : List ℕ} (s : Spare n f old mid) where
@@ -47,11 +47,11 @@ module _ (n : ℕ) (old : List ℕ) (room : length old ≡ 8 * n) where
         let longer : length mid ≡ 8 * n = s .as-long ∙ room in
         record {
           spare = λ k l.
-            ap (λ (w : List ℕ). part w (7 * n) k) e
-            ∙ part-written (7 * n) n _ mid (omega arith) l
-            ∙ ap₂ (λ (x y : ℕ). (x + y) % q) (conv-cong n (part-kept at ha) (part-kept by hb) k) (s .spare k l);
+              ap (λ (w : List ℕ). part w (7 * n) k) e
+              ∙ part-written (7 * n) n _ mid (omega arith) l
+              ∙ ap₂ (λ (x y : ℕ). (x + y) % q) (conv-cong n (part-kept at ha) (part-kept by hb) k) (s .spare k l);
           kept = λ i l. ap (λ (w : List ℕ). getD w i 0) e ∙ getD-written-before (7 * n) _ mid (omega arith) l ∙ s .kept i l;
-          as-long = ap length e ∙ length-written-tabulate (7 * n) n _ mid (omega arith) ∙ s .as-long
+          as-long = ap length e ∙ length-written-tabulate (7 * n) n _ mid (omega arith) ∙ s .as-long;
         }
 
     pub spare-kept : (at : ℕ) (new : List ℕ) → at + n ≤ 7 * n → new ≡ written at (tabulate n (part mid (7 * n))) mid → Placed n at f old new
@@ -60,12 +60,12 @@ module _ (n : ℕ) (old : List ℕ) (room : length old ≡ 8 * n) where
         record {
           placed = λ k l. ap (λ (w : List ℕ). part w at k) e ∙ part-written at n _ mid (omega arith) l ∙ s .spare k l;
           kept = λ i l side.
-            ap (λ (w : List ℕ). getD w i 0) e
-            ∙ ⊎-elim
-            (λ b. getD-written-before at _ mid (omega arith) b)
-            (λ b. getD-written-after at _ mid (omega arith) (omega (arith, length-tabulate n (part mid (7 * n)))))
-            side
-            ∙ s .kept i l
+              ap (λ (w : List ℕ). getD w i 0) e
+              ∙ ⊎-elim
+              (λ b. getD-written-before at _ mid (omega arith) b)
+              (λ b. getD-written-after at _ mid (omega arith) (omega (arith, length-tabulate n (part mid (7 * n)))))
+              side
+              ∙ s .kept i l;
         }
 
     pub spare-same : {g : Element} → ((k : ℕ) → k < n → f k ≡ g k) → Spare n g old mid

@@ -51,6 +51,6 @@ pub record Placed (n at : ℕ) (f : Element) (old new : List ℕ) : Type 0 where
 
 pub record FoldedDegree (n q k : ℕ) (rest : Polynomial) (old new : List ℕ) : Type 0 where
   pub terms :
-    (i : ℕ) → i < k → (m : ℕ) → m < n →
-    slot n new i m ≡ (conv n (slot n old i) (part old 0) m + cond (eqb (i + 1) k) (conv n (slot n old k) (part old n) m) 0 + rest i m) % q
+      (i : ℕ) → i < k → (m : ℕ) → m < n →
+      slot n new i m ≡ (conv n (slot n old i) (part old 0) m + cond (eqb (i + 1) k) (conv n (slot n old k) (part old n) m) 0 + rest i m) % q
   pub secret : (i : ℕ) → i < 2 * n → getD new i 0 ≡ getD old i 0

@@ -39,7 +39,15 @@ fn keep(work: &mut [u32], to: usize, n: usize)
 }
 
 // One term of total degree k - 1: its coefficient and u_x times the term of total degree k at the same place.
-fn fold_term(octets: &[u8], element: usize, j: usize, n: usize, qlen: usize, q: u32, work: &mut [u32])
+fn fold_term(
+    octets: &[u8],
+    element: usize,
+    j: usize,
+    n: usize,
+    qlen: usize,
+    q: u32,
+    work: &mut [u32],
+)
     requires { ⌜ Sizes n qlen (now work) × (element < 15) × (element * n * qlen + n * qlen ≤ length (now octets)) × (j < 5) × (0 < q) × (q < 2147483648) ⌝ }
     requires { ⌜ InRing q n (slot n (now work) j) × InRing 16 n (part (now work) 0) ⌝ }
     ensures { λ _. ⌜ Placed n ((2 + j) * n) (λ k. (conv n (slot n (now (work .entry)) j) (part (now (work .entry)) 0) k + flat n qlen (now (octets .entry)) element k) % q) (now (work .entry)) (now (work .exit)) ⌝ }
@@ -51,7 +59,15 @@ fn fold_term(octets: &[u8], element: usize, j: usize, n: usize, qlen: usize, q: 
 }
 
 // The last term of total degree k - 1, y^(k-1): u_y times y^k comes to it as well.
-fn fold_last(octets: &[u8], element: usize, j: usize, n: usize, qlen: usize, q: u32, work: &mut [u32])
+fn fold_last(
+    octets: &[u8],
+    element: usize,
+    j: usize,
+    n: usize,
+    qlen: usize,
+    q: u32,
+    work: &mut [u32],
+)
     requires { ⌜ Sizes n qlen (now work) × (element < 15) × (element * n * qlen + n * qlen ≤ length (now octets)) × (j < 4) × (0 < q) × (q < 2147483648) ⌝ }
     requires { ⌜ InRing q n (slot n (now work) j) × InRing q n (slot n (now work) (j + 1)) × InRing 16 n (part (now work) 0) × InRing 16 n (part (now work) n) ⌝ }
     ensures { λ _. ⌜ Placed n ((2 + j) * n) (λ k. (conv n (slot n (now (work .entry)) j) (part (now (work .entry)) 0) k + conv n (slot n (now (work .entry)) (j + 1)) (part (now (work .entry)) n) k + flat n qlen (now (octets .entry)) element k) % q) (now (work .entry)) (now (work .exit)) ⌝ }
@@ -64,7 +80,15 @@ fn fold_last(octets: &[u8], element: usize, j: usize, n: usize, qlen: usize, q: 
 }
 
 // The terms of total degree k - 1 from those of k: their coefficients stand from an element of the octets on.
-fn fold_degree(octets: &[u8], from: usize, k: usize, n: usize, qlen: usize, q: u32, work: &mut [u32])
+fn fold_degree(
+    octets: &[u8],
+    from: usize,
+    k: usize,
+    n: usize,
+    qlen: usize,
+    q: u32,
+    work: &mut [u32],
+)
     requires { ⌜ Sizes n qlen (now work) × (0 < k) × (k ≤ 4) × (from + k ≤ 15) × ((from + k) * n * qlen ≤ length (now octets)) × (0 < q) × (q < 2147483648) ⌝ }
     requires { ⌜ ((i : ℕ) → i ≤ k → InRing q n (slot n (now work) i)) ⌝ }
     requires { ⌜ InRing 16 n (part (now work) 0) × InRing 16 n (part (now work) n) ⌝ }

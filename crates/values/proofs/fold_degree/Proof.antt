@@ -40,9 +40,10 @@ fold-term-requires c κs =
     let p = c .before .before .before .before .before .pre in
     let h = c .before .before .loop .inv .1 in
     let j : ℕ = c .before .before .loop .j in
-    let in-octets : (a .from + j) * a .n * a .qlen + a .n * a .qlen ≤ (a .from + a .k) * a .n * a .qlen = element-room (a .from) j (a .k) (a .n) (a .qlen) (omega arith) in
-    ((sizes (p .0 .0) (h .as-long), omega arith, omega arith, omega arith, p .0 .5, p .0 .6),
-    (halfway-ring h (a .q) j (omega arith) (omega arith) (p .1 .0 j (omega arith)), halfway-secret h 16 0 (omega arith) (p .1 .1 .0)))
+    let in-octets : (a .from + j) * a .n * a .qlen + a .n * a .qlen ≤ (a .from + a .k) * a .n * a .qlen = element-room (a .from) j (a .k) (a .n) (a .qlen) (omega arith) in (
+      (sizes (p .0 .0) (h .as-long), omega arith, omega arith, omega arith, p .0 .5, p .0 .6),
+      (halfway-ring h (a .q) j (omega arith) (omega arith) (p .1 .0 j (omega arith)), halfway-secret h 16 0 (omega arith) (p .1 .1 .0)),
+    )
 
 add-j : tie.Need-add-j Inv-loop μ-loop
 add-j c = omega arith
@@ -52,10 +53,11 @@ loop-less c = omega arith
 
 loop-again : tie.Need-loop-again Inv-loop μ-loop
 loop-again c =
-    let h = c .before .before .before .before .before .loop .inv .1 in
-    (omega arith,
-    halfway-more h _ _ (omega arith) (omega arith) (c .before .before .fold-term .ensures) (c .before .before .fold-term .kept .1 .1 .1 .1 .1 .1 .0)
-    (λ m l. halfway-term h (omega arith) _ m l refl))
+    let h = c .before .before .before .before .before .loop .inv .1 in (
+      omega arith,
+      halfway-more h _ _ (omega arith) (omega arith) (c .before .before .fold-term .ensures) (c .before .before .fold-term .kept .1 .1 .1 .1 .1 .1 .0)
+          (λ m l. halfway-term h (omega arith) _ m l refl),
+    )
 
 add-fold-last : tie.Need-add-fold-last Inv-loop μ-loop
 add-fold-last c = omega arith
@@ -66,12 +68,15 @@ fold-last-requires c κs =
     let p = c .before .before .before .before .before .pre in
     let h = c .before .before .loop .inv .1 in
     let j : ℕ = c .before .before .loop .j in
-    let in-octets : (a .from + j) * a .n * a .qlen + a .n * a .qlen ≤ (a .from + a .k) * a .n * a .qlen = element-room (a .from) j (a .k) (a .n) (a .qlen) (omega arith) in
-    ((sizes (p .0 .0) (h .as-long), omega arith, omega arith, omega arith, p .0 .5, p .0 .6),
-    (halfway-ring h (a .q) j (omega arith) (omega arith) (p .1 .0 j (omega arith)),
-    halfway-ring h (a .q) (j + 1) (omega arith) (omega arith) (p .1 .0 (j + 1) (omega arith)),
-    halfway-secret h 16 0 (omega arith) (p .1 .1 .0),
-    halfway-secret h 16 (a .n) (omega arith) (p .1 .1 .1)))
+    let in-octets : (a .from + j) * a .n * a .qlen + a .n * a .qlen ≤ (a .from + a .k) * a .n * a .qlen = element-room (a .from) j (a .k) (a .n) (a .qlen) (omega arith) in (
+      (sizes (p .0 .0) (h .as-long), omega arith, omega arith, omega arith, p .0 .5, p .0 .6),
+      (
+        halfway-ring h (a .q) j (omega arith) (omega arith) (p .1 .0 j (omega arith)),
+        halfway-ring h (a .q) (j + 1) (omega arith) (omega arith) (p .1 .0 (j + 1) (omega arith)),
+        halfway-secret h 16 0 (omega arith) (p .1 .1 .0),
+        halfway-secret h 16 (a .n) (omega arith) (p .1 .1 .1),
+      ),
+    )
 
 same-length : tie.Need-same-length Inv-loop μ-loop
 same-length c = c .before .before .fold-last .kept .1 .1 .1 .1 .1 .1 .0 ∙ c .before .before .before .before .before .loop .inv .1 .as-long

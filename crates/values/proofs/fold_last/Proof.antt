@@ -44,10 +44,13 @@ multiply-add-small-requires c κs =
     let p = c .before .before .before .before .before .before .before .pre in
     let s = loaded (c .before .before .before) in
     let h : (2 + a .j) * a .n + a .n + a .n ≤ 7 * a .n = room (a .n) (a .j) (p .0 .3) in
-    let e : length (c .before .before .before .load .last .1 .1 .1 .1 .0) ≡ 8 * a .n = s .as-long ∙ p .0 .0 .room in
-    ((omega arith, omega arith, omega arith, p .0 .0 .most, p .0 .4, p .0 .5),
-    (inRing-kept (a .n) (a .work .now) (p .0 .0 .room) s (a .q) ((2 + a .j) * a .n) (omega arith) (p .1 .0),
-    inRing-kept (a .n) (a .work .now) (p .0 .0 .room) s 16 0 (omega arith) (p .1 .2)))
+    let e : length (c .before .before .before .load .last .1 .1 .1 .1 .0) ≡ 8 * a .n = s .as-long ∙ p .0 .0 .room in (
+      (omega arith, omega arith, omega arith, p .0 .0 .most, p .0 .4, p .0 .5),
+      (
+        inRing-kept (a .n) (a .work .now) (p .0 .0 .room) s (a .q) ((2 + a .j) * a .n) (omega arith) (p .1 .0),
+        inRing-kept (a .n) (a .work .now) (p .0 .0 .room) s 16 0 (omega arith) (p .1 .2),
+      ),
+    )
 
 added : (c : tie.After-multiply-add-small) →
     let a = c .before .before .before .before .before .before .before .before .args in
@@ -76,10 +79,13 @@ multiply-add-small-requires-2 c κs =
     let s = added (c .before .before .before) in
     let h : (2 + a .j) * a .n + a .n + a .n ≤ 7 * a .n = room (a .n) (a .j) (p .0 .3) in
     let e : length (c .before .before .before .multiply-add-small .last .0) ≡ 8 * a .n = s .as-long ∙ p .0 .0 .room in
-    let second : InRing (a .q) (a .n) (part (a .work .now) ((2 + a .j) * a .n + a .n)) = subst (λ (m : ℕ). InRing (a .q) (a .n) (part (a .work .now) m)) (next (a .n) (a .j)) (p .1 .1) in
-    ((omega arith, omega arith, omega arith, p .0 .0 .most, p .0 .4, p .0 .5),
-    (inRing-kept (a .n) (a .work .now) (p .0 .0 .room) s (a .q) ((2 + a .j) * a .n + a .n) h second,
-    inRing-kept (a .n) (a .work .now) (p .0 .0 .room) s 16 (a .n) (omega arith) (p .1 .3)))
+    let second : InRing (a .q) (a .n) (part (a .work .now) ((2 + a .j) * a .n + a .n)) = subst (λ (m : ℕ). InRing (a .q) (a .n) (part (a .work .now) m)) (next (a .n) (a .j)) (p .1 .1) in (
+      (omega arith, omega arith, omega arith, p .0 .0 .most, p .0 .4, p .0 .5),
+      (
+        inRing-kept (a .n) (a .work .now) (p .0 .0 .room) s (a .q) ((2 + a .j) * a .n + a .n) h second,
+        inRing-kept (a .n) (a .work .now) (p .0 .0 .room) s 16 (a .n) (omega arith) (p .1 .3),
+      ),
+    )
 
 both : (c : tie.After-multiply-add-small2) →
     let a = c .before .before .before .before .before .before .before .before .before .before .before .before .args in

@@ -65,11 +65,12 @@ octets from m s h = simp (length-take, length-drop) (omega arith)
 decode-requires : tie.Need-decode-requires
 decode-requires c κs =
     let a = c .before .before .before .before .args in
-    let p = c .before .before .before .before .pre in
-    (omega arith,
-    omega arith,
-    octets (a .element * a .n * a .qlen) (a .n * a .qlen) (a .octets .now) (p .2)
-    ∙ ap (λ (m : ℕ). m * a .qlen) (sym (words (a .at) (a .n) (a .work .now) (p .3))))
+    let p = c .before .before .before .before .pre in (
+      omega arith,
+      omega arith,
+      octets (a .element * a .n * a .qlen) (a .n * a .qlen) (a .octets .now) (p .2)
+          ∙ ap (λ (m : ℕ). m * a .qlen) (sym (words (a .at) (a .n) (a .work .now) (p .3))),
+    )
 
 same-length : tie.Need-same-length
 same-length c = search needs
@@ -80,8 +81,8 @@ returns c =
     let p = c .before .before .before .before .before .before .before .pre in
     let e : a .element * a .n * a .qlen + a .n * a .qlen - a .element * a .n * a .qlen ≡ a .n * a .qlen = omega arith in
     let given : c .before .before .decode .last .1 .1 .0 ≡ decoded (a .qlen) (a .n) (take (a .n * a .qlen) (drop (a .element * a .n * a .qlen) (a .octets .now))) =
-        c .before .before .decode .ensures
-        ∙ ap₂ (λ (m k : ℕ). decoded (a .qlen) m (take k (drop (a .element * a .n * a .qlen) (a .octets .now)))) (words (a .at) (a .n) (a .work .now) (p .3)) e in
+    c .before .before .decode .ensures
+    ∙ ap₂ (λ (m k : ℕ). decoded (a .qlen) m (take k (drop (a .element * a .n * a .qlen) (a .octets .now)))) (words (a .at) (a .n) (a .work .now) (p .3)) e in
     putMid-written (a .at) (a .n) (a .work .now) _ (ap length given ∙ length-decoded _ _ _)
     ∙ ap (λ (l : List ℕ). written (a .at) l (a .work .now)) (given ∙ decoded-element (a .qlen) (a .n) (a .element) (a .octets .now) (p .2))
 

@@ -1,61 +1,86 @@
+-- `load_highest` decodes the first (d + 1) × n coefficients into the parts from the third on.
+-- Assumes nothing.
+use Prim.Native.Nat.{ℕ, _+_, _-_, _*_, _≤_}
+use native.Mathlib.Nat.{mul-le-mul-right, le-of-eq}
+use native.Mathlib.Omega.{arith}
+use mathlib.Core.Path.{_≡_, sym, ap, _∙_}
+use mathlib.Core.List.{List}
+use lib.ListN.{length, take, drop, length-take, length-drop, take-append-drop}
 use borrow.Author.Needs.{needs}
+use Rattle.definitions.specs.Octets.{decoded}
+use Rattle.definitions.proofs.Octets.{length-decoded, decoded-append}
+use Rattle.ring.specs.Work.{written}
+use Rattle.values.proofs.Parts.{putMid-written}
 use Rattle.values.proofs.load_highest.Statement.{statement}
 use Rattle.values.proofs.load_highest.Tie as tie
-use Rattle.values.proofs.load_highest.Reads as reads
-use Rattle.values.proofs.load_highest.Lts as lts
-use Rattle.octets.proofs.decode.Reads as decode-reads
 
--- src/lib.rt:86:18
 add-count : tie.Need-add-count
-add-count c = search needs
+add-count c = omega arith
 
--- src/lib.rt:86:17
+-- at most five elements
+few : (d n : ℕ) → d ≤ 4 → (d + 1) * n ≤ 5 * n
+few d n h = mul-le-mul-right n (omega arith)
+
 mul-count : tie.Need-mul-count
-mul-count c = ?
+mul-count c = let a = c .before .before .args in omega (arith, few (a .d) (a .n) (omega arith))
 
--- src/lib.rt:87:15
 mul-end : tie.Need-mul-end
-mul-end c = search needs
+mul-end c = omega arith
 
--- src/lib.rt:88:14
 mul-at : tie.Need-mul-at
-mul-at c = search needs
+mul-at c = omega arith
 
--- src/lib.rt:89:16
 add-stop : tie.Need-add-stop
-add-stop c = ?
+add-stop c = let a = c .before .before .args in omega (arith, few (a .d) (a .n) (omega arith))
 
--- src/lib.rt:90:20
 slice-aggregate-decode : tie.Need-slice-aggregate-decode
-slice-aggregate-decode c = ?
+slice-aggregate-decode c = simp length-take (omega arith)
 
--- src/lib.rt:90:42
 mul-decode : tie.Need-mul-decode
 mul-decode c = search needs
 
--- src/lib.rt:90:42
 sub-decode : tie.Need-sub-decode
 sub-decode c = search needs
 
--- src/lib.rt:90:42
 part-decode-start : tie.Need-part-decode-start
 part-decode-start c = search needs
 
--- src/lib.rt:90:42
 part-decode-end : tie.Need-part-decode-end
-part-decode-end c = ?
+part-decode-end c = let a = c .before .before .before .args in omega (arith, few (a .d) (a .n) (omega arith))
 
--- src/lib.rt:90:5
+words : (at n : ℕ) (l : List ℕ) → at + n ≤ length l → length (take (at + n - at) (drop at l)) ≡ n
+words at n l e = simp (length-take, length-drop) (omega arith)
+
+octets : (m : ℕ) (s : List ℕ) → m ≤ length s → length (take m s) ≡ m
+octets m s h = simp length-take (omega arith)
+
 decode-requires : tie.Need-decode-requires
-decode-requires c κs = ?
+decode-requires c κs =
+    let a = c .before .before .before .before .args in
+    let p = c .before .before .before .before .pre in
+    let inside : 2 * a .n + (a .d + 1) * a .n ≤ length (a .work .now) = omega (arith, few (a .d) (a .n) (p .1), p .0 .room) in (
+      p .0 .octets-least,
+      p .0 .octets-most,
+      octets ((a .d + 1) * a .n * a .qlen) (a .octets .now) (p .2) ∙ ap (λ (m : ℕ). m * a .qlen) (sym (words (2 * a .n) ((a .d + 1) * a .n) (a .work .now) inside)),
+    )
 
--- src/lib.rt:82:1
 same-length : tie.Need-same-length
 same-length c = search needs
 
--- src/lib.rt:82:1
 returns : tie.Need-returns
-returns c = ?
+returns c =
+    let a = c .before .before .before .before .before .before .before .args in
+    let p = c .before .before .before .before .before .before .before .pre in
+    let count : ℕ = (a .d + 1) * a .n in
+    let inside : 2 * a .n + count ≤ length (a .work .now) = omega (arith, few (a .d) (a .n) (p .1), p .0 .room) in
+    let front : List ℕ = take (count * a .qlen) (a .octets .now) in
+    let given : c .before .before .decode .last .1 .1 .0 ≡ decoded (a .qlen) count (a .octets .now) =
+    c .before .before .decode .ensures
+    ∙ ap (λ (m : ℕ). decoded (a .qlen) m front) (words (2 * a .n) count (a .work .now) inside)
+    ∙ sym (decoded-append (a .qlen) count front (drop (count * a .qlen) (a .octets .now)) (le-of-eq (sym (octets (count * a .qlen) (a .octets .now) (p .2)))))
+    ∙ ap (decoded (a .qlen) count) (take-append-drop (count * a .qlen) (a .octets .now)) in
+    putMid-written (2 * a .n) count (a .work .now) _ (ap length given ∙ length-decoded _ _ _)
+    ∙ ap (λ (l : List ℕ). written (2 * a .n) l (a .work .now)) given
 
 pub load-highest-spec : {M : Type 1} → statement M
 load-highest-spec =
