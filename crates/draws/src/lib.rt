@@ -1,0 +1,97 @@
+// Draws from random octets (01, "Draws from lent random octets"): numbers below q, and small elements.
+// A run of draws is refused where the octets end before its last draw is complete. The contracts cite definitions/specs/Draws.antt.
+ghost use mathlib.Core.Path.{_≡_};
+ghost use Prim.Native.Nat.{_+_, _-_, _≤_, _<_, _^_};
+ghost use lib.ListN.{length, take, drop};
+ghost use Rattle.definitions.specs.Parameters.{bitLength, qlen};
+ghost use Rattle.definitions.specs.Octets.{numberOf};
+ghost use Rattle.definitions.specs.Draws.{candidates, draws};
+ghost use Rattle.draws.specs.Runs.{said, drawnAnswer};
+
+// What a run of draws below q answers: the groups that it took, or that the octets ended.
+pub enum Run {
+    Complete(usize),
+    Exhausted,
+}
+
+// One octet as a number.
+fn octet(random: &[u8], at: usize) -> u32
+    requires { ⌜ at < length (now random) ⌝ }
+    ensures { λ r. ⌜ (r ≡ numberOf (take 1 (drop at (now (random .entry))))) × (r < 256) ⌝ }
+{
+    random[at] as u32
+}
+
+// Two octets as a number, least significant first.
+fn pair(random: &[u8], at: usize) -> u32
+    requires { ⌜ at + 2 ≤ length (now random) ⌝ }
+    ensures { λ r. ⌜ (r ≡ numberOf (take 2 (drop at (now (random .entry))))) × (r < 65536) ⌝ }
+{
+    octet(random, at) + 256 * octet(random, at + 1)
+}
+
+// A group of one to four octets as a number, least significant first.
+fn group(random: &[u8], at: usize, width: usize) -> u32
+    requires { ⌜ (0 < width) × (width ≤ 4) × (at + width ≤ length (now random)) ⌝ }
+    ensures { λ r. ⌜ r ≡ numberOf (take width (drop at (now (random .entry)))) ⌝ }
+{
+    if width == 4 {
+        return pair(random, at) + 65536 * pair(random, at + 2);
+    }
+    if width == 3 {
+        return pair(random, at) + 65536 * octet(random, at + 2);
+    }
+    if width == 2 {
+        return pair(random, at);
+    }
+    octet(random, at)
+}
+
+// How many octets a group has.
+fn group_width(q: u32) -> usize
+    requires { ⌜ (0 < q) × (q < 2 ^ 31) ⌝ }
+    ensures { λ r. ⌜ (r ≡ qlen q) × (0 < r) × (r ≤ 4) ⌝ }
+{
+    ((32 - u32::leading_zeros(q) + 7) / 8) as usize
+}
+
+// The bits of q, each set: and with it is reduction modulo 2 to the bit length of q.
+fn group_mask(q: u32) -> u32
+    requires { ⌜ (0 < q) × (q < 2 ^ 31) ⌝ }
+    ensures { λ r. ⌜ r ≡ 2 ^ bitLength q - 1 ⌝ }
+{
+    (1u32 << (32 - u32::leading_zeros(q))) - 1
+}
+
+// As many draws below q as there are words, from the octets at a place on: a group of q or more is dropped and the next is taken.
+pub fn draw_below(random: &[u8], start: usize, q: u32, words: &mut [u32]) -> Run
+    requires { ⌜ (start ≤ length (now random)) × (0 < q) × (q < 2 ^ 31) ⌝ }
+    ensures {
+        λ r. ⌜ said r (now (words .exit)) ≡ drawnAnswer (draws q (length (now (words .entry))) (candidates q (drop start (now (random .entry))))) ⌝
+    }
+{
+    let width = group_width(q);
+    let mask = group_mask(q);
+    let mut at = start;
+    let mut groups: usize = 0;
+    let mut i: usize = 0;
+    'coefficients: while i < words.len() {
+        let value = loop {
+            if random.len() - at < width {
+                break 'coefficients;
+            }
+            let x = group(random, at, width) & mask;
+            at += width;
+            groups += 1;
+            if x < q {
+                break x;
+            }
+        };
+        words[i] = value;
+        i += 1;
+    }
+    if i < words.len() {
+        return Run::Exhausted;
+    }
+    Run::Complete(groups)
+}
