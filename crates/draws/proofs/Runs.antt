@@ -10,13 +10,14 @@ use native.Mathlib.Nat.{add-zero, zero-add, add-comm, zero-mul, suc-mul, sub-zer
 use native.Mathlib.Numerals.{add-one}
 use native.Mathlib.Omega.{arith}
 use mathlib.Core.Path.{_≡_, refl, sym, _∙_, ap, ap₂}
-use mathlib.Core.Bool.{true, false}
+use mathlib.Core.Bool.{Bool, true, false, not}
 use mathlib.Core.List.{List, [], _∷_, _++_, append-assoc, append-nil}
 use lib.ListN.{length, take, drop, set, length-drop, length-set}
 use lib.Seq.{drop-drop, take-suc-set, take-all}
+use lib.Bits.{bitAnd, and-mask}
 use borrow.Author.Tests.{lt-ltb, le-ltb}
 use Rattle.definitions.specs.Sequences.{tabulate}
-use Rattle.definitions.specs.Refusals.{firstRefusal, refused, accepted, answer}
+use Rattle.definitions.specs.Refusals.{firstRefusal, refuse, refused, accepted, answer}
 use Rattle.definitions.specs.Parameters.{bitLength, qlen}
 use Rattle.definitions.specs.Octets.{numberOf, coefficientAt}
 use Rattle.definitions.specs.Draws.{Drawn, kept, dropped, candidates, draws}
@@ -84,43 +85,75 @@ pub record Going (q : ℕ) (random : List ℕ) (start : ℕ) (words : List ℕ) 
   pub counted : groups ≤ at
   pub whole : left q random (length words) start ≡ onward (take i words) groups (left q random (length words - i) at)
 
-module _ (q : ℕ) (random : List ℕ) (start : ℕ) (words : List ℕ) where
-  pub going-start : start ≤ length random → Going q random start words 0 start 0
-  going-start h = record { within = h; counted = zero-le; whole = rw (sub-zero, zero-add) }
+pub going-start : (q : ℕ) (random : List ℕ) (start : ℕ) (words : List ℕ) → start ≤ length random → Going q random start words 0 start 0
+going-start q random start words h = record { within = h; counted = zero-le; whole = rw (sub-zero, zero-add) }
 
-  module _ (i at groups : ℕ) (going : Going q random start words i at groups) where
-    pub going-kept : (x : ℕ) → x ≡ groupAt q random at → x < q → i < length words → 0 < qlen q → at + qlen q ≤ length random
-        → Going q random start (set words i x) (i + 1) (at + qlen q) (groups + 1)
-    going-kept x e below inside pos fits =
-        let next : length words - i ≡ suc (length words - (i + 1)) = omega arith in
-        let filled : take (i + 1) (set words i x) ≡ take i words ++ (x ∷ []) = rw (add-one i) (take-suc-set words i x inside) in
-        let step : left q random (length words - i) at ≡ kept x (left q random (length words - (i + 1)) (at + qlen q)) =
-            rw (next, e) (left-kept q random at (length words - (i + 1)) pos fits (rw e at below)) in
-        record {
-          within = fits;
-          counted = omega arith;
-          whole = rw (length-set, filled) (rw step at (going .whole) ∙ onward-kept (take i words) groups x (left q random (length words - (i + 1)) (at + qlen q)));
-        }
+one-less : {i n : ℕ} → i < n → n - i ≡ suc (n - (i + 1))
+one-less h = omega arith
 
-    pub going-dropped : q ≤ groupAt q random at → i < length words → 0 < qlen q → at + qlen q ≤ length random
-        → Going q random start words i (at + qlen q) (groups + 1)
-    going-dropped above inside pos fits =
-        let next : length words - i ≡ suc (length words - (i + 1)) = omega arith in
-        let step : left q random (length words - i) at ≡ dropped (left q random (length words - i) (at + qlen q)) =
-            rw next (left-dropped q random at (length words - (i + 1)) pos fits above) in
-        record {
-          within = fits;
-          counted = omega arith;
-          whole = rw step at (going .whole) ∙ onward-dropped (take i words) groups (left q random (length words - i) (at + qlen q));
-        }
+module _ {q : ℕ} {random : List ℕ} {start : ℕ} {words : List ℕ} {i at groups : ℕ} (going : Going q random start words i at groups) where
+  -- what is read there and masked, with as many ones as q has bits
+  pub going-group : {width mask x : ℕ} → width ≡ qlen q → mask ≡ 2 ^ bitLength q - 1 → x ≡ numberOf (take width (drop at random))
+      → bitAnd x mask ≡ groupAt q random at
+  going-group w m e = rw (m, and-mask, e, w)
 
-    pub going-ended : i < length words → length random - at < qlen q → left q random (length words) start .enough ≡ false
-    going-ended inside short =
-        let next : length words - i ≡ suc (length words - (i + 1)) = omega arith in
-        ap (λ (d : Drawn). d .enough) (going .whole) ∙ rw next (left-ended q random at (length words - (i + 1)) short)
+  pub going-kept : {width x : ℕ} → width ≡ qlen q → x ≡ groupAt q random at → x < q → i < length words → 0 < width → at + width ≤ length random
+      → Going q random start (set words i x) (i + 1) (at + width) (groups + 1)
+  going-kept {width} {x} w e below inside pos fits =
+      let rest = left q random (length words - (i + 1)) (at + width) in
+      let filled : take (i + 1) (set words i x) ≡ take i words ++ (x ∷ []) = rw (add-one i) (take-suc-set words i x inside) in
+      let step : left q random (length words - i) at ≡ kept x rest =
+      rw (one-less inside, e, w) (left-kept q random at (length words - (i + 1)) (rw w at pos) (rw w at fits) (rw e at below)) in
+      record {
+        within = fits;
+        counted = omega arith;
+        whole = rw (length-set, filled) (rw step at (going .whole) ∙ onward-kept (take i words) groups x rest);
+      }
 
-    pub going-done : length words ≤ i → left q random (length words) start ≡ record { values = words; groups = groups; enough = true }
-    unfolding draws
-    going-done done =
-        let none : length words - i ≡ 0 = omega arith in
-        going .whole ∙ rw (none, take-all i words done, append-nil, add-zero)
+  pub going-dropped : {width : ℕ} → width ≡ qlen q → q ≤ groupAt q random at → i < length words → 0 < width → at + width ≤ length random
+      → Going q random start words i (at + width) (groups + 1)
+  going-dropped {width} w above inside pos fits =
+      let rest = left q random (length words - i) (at + width) in
+      let step : left q random (length words - i) at ≡ dropped rest =
+      rw (one-less inside, w) (left-dropped q random at (length words - (i + 1)) (rw w at pos) (rw w at fits) above) in
+      record {
+        within = fits;
+        counted = omega arith;
+        whole = rw step at (going .whole) ∙ onward-dropped (take i words) groups rest;
+      }
+
+  pub going-exhausted : {n : ℕ} → length words ≡ n → i < length words → length random - at < qlen q → refused 9 ≡ drawnAnswer (left q random n start)
+  unfolding drawnAnswer answer firstRefusal
+  going-exhausted same inside short =
+      let ended : left q random (length words) start .enough ≡ false =
+      ap (λ (d : Drawn). d .enough) (going .whole) ∙ rw (one-less inside) (left-ended q random at (length words - (i + 1)) short) in
+      rw (← same, ended)
+
+  pub going-complete : {n : ℕ} → length words ≡ n → length words ≤ i
+      → accepted (record { values = words; groups = groups; enough = true }) ≡ drawnAnswer (left q random n start)
+  unfolding drawnAnswer answer firstRefusal draws
+  going-complete same done =
+      let none : length words - i ≡ 0 = omega arith in
+      let whole : left q random (length words) start ≡ record { values = words; groups = groups; enough = true } =
+      going .whole ∙ rw (none, take-all i words done, append-nil, add-zero) in
+      rw (← same, whole)
+
+-- ---- what an answer tells a caller
+
+complete-told : (enough : Bool) (d e : Drawn) → accepted e ≡ answer [] (refuse 9 (not enough) ∷ []) d → d ≡ e
+unfolding answer firstRefusal
+complete-told true d e h = cc
+complete-told false d e h = cc
+
+exhausted-told : (enough : Bool) (d : Drawn) → refused 9 ≡ answer [] (refuse 9 (not enough) ∷ []) d → enough ≡ false
+unfolding answer firstRefusal
+exhausted-told true d h = cc
+exhausted-told false d h = refl
+
+pub drawnAnswer-complete : (d : Drawn) {e : Drawn} → accepted e ≡ drawnAnswer d → d ≡ e
+unfolding drawnAnswer
+drawnAnswer-complete d {e} h = complete-told (d .enough) d e h
+
+pub drawnAnswer-exhausted : (d : Drawn) → refused 9 ≡ drawnAnswer d → d .enough ≡ false
+unfolding drawnAnswer
+drawnAnswer-exhausted d h = exhausted-told (d .enough) d h

@@ -66,9 +66,7 @@ fn group_mask(q: u32) -> u32
 // As many draws below q as there are words, from the octets at a place on: a group of q or more is dropped and the next is taken.
 pub fn draw_below(random: &[u8], start: usize, q: u32, words: &mut [u32]) -> Run
     requires { ⌜ (start ≤ length (now random)) × (0 < q) × (q < 2 ^ 31) ⌝ }
-    ensures {
-        λ r. ⌜ said r (now (words .exit)) ≡ drawnAnswer (draws q (length (now (words .entry))) (candidates q (drop start (now (random .entry))))) ⌝
-    }
+    ensures { λ r. ⌜ said r (now (words .exit)) ≡ drawnAnswer (draws q (length (now (words .entry))) (candidates q (drop start (now (random .entry))))) ⌝ }
 {
     let width = group_width(q);
     let mask = group_mask(q);
