@@ -3,3 +3,10 @@ pub mod WorkedCases
 pub mod Sums
 pub mod Congruence
 pub mod Ring
+pub mod Monomials
+pub mod Values
+pub mod Tests
+pub mod Refusals
+pub mod Parameters
+pub mod Octets
+pub mod Packing

@@ -1,11 +1,11 @@
 -- The laws of the product with t^n = 1. An element a is read as the map φ ↦ a_0 φ(0) + .. + a_(n-1) φ(n-1) (`pair`): a product pairs
 -- as one factor after the other does (`pair-conv`), so its laws are those of + modulo n. Assumes nothing.
 use Prim.Native.Nat.{ℕ, zero, suc, _+_, _-_, _*_, _%_, _≤_, _<_, zero-le}
-use native.Mathlib.Nat.{sub-zero, mul-one, zero-add, suc-add, add-assoc, add-comm, mul-zero, mul-comm, mul-assoc, add-mul, mul-left-comm, mul-le-mul, mod-lt, mod-eq-of-lt, mod-self, zero-mod, mod-add-mod, add-mod-mod, add-mod-right}
+use native.Mathlib.Nat.{sub-zero, mul-one, zero-add, suc-add, add-assoc, add-comm, mul-zero, zero-mul, mul-comm, mul-assoc, add-mul, mul-left-comm, mul-le-mul, mod-lt, mod-eq-of-lt, mod-self, zero-mod, mod-add-mod, add-mod-mod, add-mod-right}
 use native.Mathlib.Numerals.{add-one}
 use native.Mathlib.Omega.{arith}
 use native.Mathlib.Decide.{decLt}
-use mathlib.Core.Path.{_≡_, refl, sym, _∙_, ap, ap₂}
+use mathlib.Core.Path.{_≡_, refl, sym, _∙_, ap, ap₂, fun-ext}
 use Rattle.definitions.specs.Sequences.{sum, sameNumber}
 use Rattle.definitions.specs.Ring.{Element, add, scale, conv, one, power}
 use Rattle.definitions.proofs.Sums.{sameNumber-self, sameNumber-other, sum-cong, sum-add, sum-scale, sum-scale-right, sum-const, sum-zero, sum-comm, sum-le, sum-single, sum-pick-left}
@@ -75,6 +75,12 @@ conv-assoc n a b c k =
     ∙ pair-inner n a (λ i _. pair-inner n b (λ j _. pair-inner n c (λ m _. ap (λ (x : ℕ). sameNumber x k) (mod-assoc n i j m))))
     ∙ sym (conv-pair n a (conv n b c) k ∙ pair-inner n a (λ i _. pair-conv n b c (λ m. sameNumber ((i + m) % n) k)))
 
+pub conv-interchange : (n : ℕ) (a b c d : Element) (k : ℕ) → conv n (conv n a b) (conv n c d) k ≡ conv n (conv n a c) (conv n b d) k
+conv-interchange n a b c d k =
+    let right : (u v w : Element) → conv n (conv n u v) w ≡ conv n u (conv n v w) = λ u v w. fun-ext (conv-assoc n u v w) in
+    let turn : conv n b c ≡ conv n c b = fun-ext (conv-comm n b c) in
+    rw (right a b (conv n c d), ← right b c d, turn, right c b d, ← right a c (conv n b d))
+
 -- the product is linear in each factor
 
 pub conv-add-left : (n : ℕ) (a b c : Element) (k : ℕ) → conv n (add a b) c k ≡ conv n a c k + conv n b c k
@@ -108,6 +114,10 @@ conv-cong n h g k = sum-cong n (λ i l. ap₂ _*_ (h i l) (sum-cong n (λ j s. a
 pub conv-cong-modulo : (n : ℕ) {q : ℕ} {a b c d : Element} → ((i : ℕ) → i < n → Cong q (a i) (b i)) → ((i : ℕ) → i < n → Cong q (c i) (d i)) → (k : ℕ) → Cong q (conv n a c k) (conv n b d k)
 unfolding conv
 conv-cong-modulo n h g k = cong-sum n (λ i l. cong-mul (h i l) (cong-sum n (λ j s. cong-mul (g j s) cong-refl)))
+
+pub conv-zero-left : (n : ℕ) {a : Element} (b : Element) → ((i : ℕ) → i < n → a i ≡ 0) → (k : ℕ) → conv n a b k ≡ 0
+unfolding conv
+conv-zero-left n b h k = sum-zero n (λ i l. rw (h i l) (zero-mul _))
 
 pub conv-outside : (n : ℕ) (a b : Element) {k : ℕ} → n ≤ k → conv n a b k ≡ 0
 unfolding conv
