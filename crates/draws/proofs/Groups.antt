@@ -1,18 +1,18 @@
 -- How a group of octets is read and reduced: octets join to a number from the front, and a mask of k ones reduces modulo 2 ^ k.
 -- Assumes nothing.
-use Prim.Native.Nat.{ℕ, zero, suc, _+_, _-_, _*_, _/_, _%_, _^_, _≤_, _<_}
-use native.Mathlib.Nat.{add-zero, zero-mul, one-mul, lt-trans, pow-zero, pow-suc}
+use Prim.Native.Nat.{ℕ, _+_, _-_, _*_, _%_, _^_, _≤_, _<_}
+use native.Mathlib.Nat.{one-mul, pow-zero, pow-suc}
 use native.Mathlib.Omega.{arith}
-use mathlib.Core.Path.{_≡_, refl, sym, _∙_, ap}
+use mathlib.Core.Path.{_≡_, _∙_}
 use mathlib.Core.List.{List, [], _∷_, _++_}
 use lib.ListN.{length, getD, take, drop, length-drop}
 use lib.Seq.{length-take-le, take-add, drop-drop, drop-cons}
 use lib.Dec.{lit<}
 use lib.Pow.{pow-mono, shl-exact}
 use native.Mathlib.Decide.{decLt}
-use lib.Count.{leadingZeros, leading-top}
-use Rattle.definitions.specs.Parameters.{bitLength, qlen}
+use Rattle.definitions.specs.Parameters.{bitLength}
 use Rattle.definitions.specs.Octets.{numberOf}
+use Rattle.definitions.proofs.Parameters.{bitLength-below}
 
 pub numberOf-append : (a b : List ℕ) → numberOf (a ++ b) ≡ numberOf a + 256 ^ length a * numberOf b
 unfolding numberOf
@@ -30,11 +30,13 @@ pub numberOf-one : (at : ℕ) (s : List ℕ) → at < length s → numberOf (tak
 unfolding numberOf
 numberOf-one at s h = rw (drop-cons s at 0 h) (omega arith)
 
--- the leading zeros of a q below 2 ^ 31
-pub leading-within : (q : ℕ) → 0 < q → q < 2 ^ 31 → (1 ≤ leadingZeros 32 q) × (leadingZeros 32 q ≤ 31)
-leading-within q pos fits =
-    let (j, whole, low, high) = leading-top 32 q pos (lt-trans fits (lit< tt)) in
-    elim (decLt j 31) [ yes l ↦ omega arith | no g ↦ let z : ⊥ = omega (arith, pow-mono {i = 31} {j = j} (omega arith)) in absurd z ]
+-- a q below 2 ^ 31 has fewer than 32 bits
+pub bitLength-short : (q : ℕ) → 0 < q → q < 2 ^ 31 → bitLength q < 32
+bitLength-short q pos fits =
+    elim (decLt (bitLength q) 32) [
+      | yes l ↦ l
+      | no g ↦ let z : ⊥ = omega (arith, bitLength-below q pos (omega arith), pow-mono {i = 31} {j = bitLength q - 1} (omega arith)) in absurd z
+    ]
 
 pub bit-shifted : (k : ℕ) → k < 32 → 1 * 2 ^ k % 2 ^ 32 ≡ 2 ^ k
 bit-shifted k h = shl-exact 1 k 32 (lit< tt) (omega arith) ∙ one-mul (2 ^ k)

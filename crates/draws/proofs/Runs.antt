@@ -1,15 +1,15 @@
 -- A run of draws under way is right when the whole run is what it has kept and taken, followed by the run of what is left: a group
 -- of q or more moves one group on, a kept one a word too, and the run ends where no word or no group is left.
 --
---   left             so many draws from the octets at a place on
+--   drawsAt          so many draws from the octets at a place on
 --   onward           what is kept and how many groups are taken, then the rest of the run
 --   Going            a run from start that has filled i words and stands at a place of the octets
 -- Assumes nothing.
-use Prim.Native.Nat.{ℕ, zero, suc, _+_, _-_, _*_, _/_, _%_, _^_, _≤_, _<_, zero-le}
-use native.Mathlib.Nat.{add-zero, zero-add, add-comm, zero-mul, suc-mul, sub-zero, div-eq-of-lt, div-eq-sub-div}
+use Prim.Native.Nat.{ℕ, suc, _+_, _-_, _/_, _%_, _^_, _≤_, _<_, zero-le}
+use native.Mathlib.Nat.{add-zero, zero-add, sub-zero, div-eq-of-lt, div-eq-sub-div}
 use native.Mathlib.Numerals.{add-one}
 use native.Mathlib.Omega.{arith}
-use mathlib.Core.Path.{_≡_, refl, sym, _∙_, ap, ap₂}
+use mathlib.Core.Path.{_≡_, refl, _∙_, ap}
 use mathlib.Core.Bool.{Bool, true, false, not}
 use mathlib.Core.List.{List, [], _∷_, _++_, append-assoc, append-nil}
 use lib.ListN.{length, take, drop, set, length-drop, length-set}
@@ -19,9 +19,11 @@ use borrow.Author.Tests.{lt-ltb, le-ltb}
 use Rattle.definitions.specs.Sequences.{tabulate}
 use Rattle.definitions.specs.Refusals.{firstRefusal, refuse, refused, accepted, answer}
 use Rattle.definitions.specs.Parameters.{bitLength, qlen}
-use Rattle.definitions.specs.Octets.{numberOf, coefficientAt}
+use Rattle.definitions.specs.Octets.{numberOf}
 use Rattle.definitions.specs.Draws.{Drawn, kept, dropped, candidates, draws}
 use Rattle.definitions.proofs.Sums.{tabulate-cong}
+use Rattle.definitions.proofs.Octets.{coefficientAt-zero, coefficientAt-suc}
+use Rattle.definitions.proofs.Parameters.{qlen-least, qlen-most}
 use Rattle.draws.specs.Runs.{drawnAnswer}
 
 -- ---- groups
@@ -32,38 +34,38 @@ candidates-none q random h = rw (div-eq-of-lt h)
 
 pub candidates-cons : (q : ℕ) (random : List ℕ) → 0 < qlen q → qlen q ≤ length random
     → candidates q random ≡ numberOf (take (qlen q) random) % 2 ^ bitLength q ∷ candidates q (drop (qlen q) random)
-unfolding candidates tabulate coefficientAt
+unfolding candidates tabulate
 candidates-cons q random pos fits =
-    rw (div-eq-sub-div pos fits, add-one, zero-mul, length-drop)
+    rw (div-eq-sub-div pos fits, add-one, coefficientAt-zero, length-drop)
     (ap (λ (l : List ℕ). numberOf (take (qlen q) random) % 2 ^ bitLength q ∷ l)
-    (tabulate-cong ((length random - qlen q) / qlen q) (λ k h. rw (drop-drop (k * qlen q) (qlen q) random, suc-mul, add-comm (k * qlen q) (qlen q)))))
+    (tabulate-cong ((length random - qlen q) / qlen q) (λ k h. rw (coefficientAt-suc (qlen q) random k))))
 
 -- the group at a place, reduced
 abbrev pub groupAt : ℕ → List ℕ → ℕ → ℕ
 groupAt q random at = numberOf (take (qlen q) (drop at random)) % 2 ^ bitLength q
 
-abbrev pub left : ℕ → List ℕ → ℕ → ℕ → Drawn
-left q random count at = draws q count (candidates q (drop at random))
+abbrev pub drawsAt : ℕ → List ℕ → ℕ → ℕ → Drawn
+drawsAt q random count at = draws q count (candidates q (drop at random))
 
 module _ (q : ℕ) (random : List ℕ) (at : ℕ) where
-  left-cons : 0 < qlen q → at + qlen q ≤ length random → candidates q (drop at random) ≡ groupAt q random at ∷ candidates q (drop (at + qlen q) random)
-  left-cons pos fits =
+  candidates-at : 0 < qlen q → at + qlen q ≤ length random → candidates q (drop at random) ≡ groupAt q random at ∷ candidates q (drop (at + qlen q) random)
+  candidates-at pos fits =
       let complete : qlen q ≤ length (drop at random) = simp length-drop (omega arith) in
       candidates-cons q (drop at random) pos complete ∙ rw (drop-drop (qlen q) at random)
 
-  pub left-kept : (count : ℕ) → 0 < qlen q → at + qlen q ≤ length random → groupAt q random at < q
-      → left q random (suc count) at ≡ kept (groupAt q random at) (left q random count (at + qlen q))
+  pub drawsAt-kept : (count : ℕ) → 0 < qlen q → at + qlen q ≤ length random → groupAt q random at < q
+      → drawsAt q random (suc count) at ≡ kept (groupAt q random at) (drawsAt q random count (at + qlen q))
   unfolding draws
-  left-kept count pos fits below = rw (left-cons pos fits, lt-ltb (groupAt q random at) q below)
+  drawsAt-kept count pos fits below = rw (candidates-at pos fits, lt-ltb (groupAt q random at) q below)
 
-  pub left-dropped : (count : ℕ) → 0 < qlen q → at + qlen q ≤ length random → q ≤ groupAt q random at
-      → left q random (suc count) at ≡ dropped (left q random (suc count) (at + qlen q))
+  pub drawsAt-dropped : (count : ℕ) → 0 < qlen q → at + qlen q ≤ length random → q ≤ groupAt q random at
+      → drawsAt q random (suc count) at ≡ dropped (drawsAt q random (suc count) (at + qlen q))
   unfolding draws
-  left-dropped count pos fits above = rw (left-cons pos fits, le-ltb (groupAt q random at) q above)
+  drawsAt-dropped count pos fits above = rw (candidates-at pos fits, le-ltb (groupAt q random at) q above)
 
-  pub left-ended : (count : ℕ) → length random - at < qlen q → left q random (suc count) at .enough ≡ false
+  pub drawsAt-ended : (count : ℕ) → length random - at < qlen q → drawsAt q random (suc count) at .enough ≡ false
   unfolding draws
-  left-ended count short =
+  drawsAt-ended count short =
       let incomplete : length (drop at random) < qlen q = simp length-drop short in
       rw (candidates-none q (drop at random) incomplete)
 
@@ -81,12 +83,22 @@ onward-dropped : (values : List ℕ) (groups : ℕ) (d : Drawn) → onward value
 onward-dropped values groups d = let moved : groups + suc (d .groups) ≡ groups + 1 + d .groups = omega arith in rw moved
 
 pub record Going (q : ℕ) (random : List ℕ) (start : ℕ) (words : List ℕ) (i at groups : ℕ) : Type 0 where
+  pub least : 0 < qlen q
+  pub most : qlen q ≤ 4
   pub within : at ≤ length random
   pub counted : groups ≤ at
-  pub whole : left q random (length words) start ≡ onward (take i words) groups (left q random (length words - i) at)
+  pub whole : drawsAt q random (length words) start ≡ onward (take i words) groups (drawsAt q random (length words - i) at)
 
-pub going-start : (q : ℕ) (random : List ℕ) (start : ℕ) (words : List ℕ) → start ≤ length random → Going q random start words 0 start 0
-going-start q random start words h = record { within = h; counted = zero-le; whole = rw (sub-zero, zero-add) }
+pub going-start : (q : ℕ) (random : List ℕ) (start : ℕ) (words : List ℕ) → 0 < q → q < 2 ^ 32 → start ≤ length random
+    → Going q random start words 0 start 0
+going-start q random start words pos fits h =
+    record {
+      least = qlen-least q pos fits;
+      most = qlen-most q;
+      within = h;
+      counted = zero-le;
+      whole = rw (sub-zero, zero-add);
+    }
 
 one-less : {i n : ℕ} → i < n → n - i ≡ suc (n - (i + 1))
 one-less h = omega arith
@@ -97,46 +109,50 @@ module _ {q : ℕ} {random : List ℕ} {start : ℕ} {words : List ℕ} {i at gr
       → bitAnd x mask ≡ groupAt q random at
   going-group w m e = rw (m, and-mask, e, w)
 
-  pub going-kept : {width x : ℕ} → width ≡ qlen q → x ≡ groupAt q random at → x < q → i < length words → 0 < width → at + width ≤ length random
+  pub going-kept : {width x : ℕ} → width ≡ qlen q → x ≡ groupAt q random at → x < q → i < length words → at + width ≤ length random
       → Going q random start (set words i x) (i + 1) (at + width) (groups + 1)
-  going-kept {width} {x} w e below inside pos fits =
-      let rest = left q random (length words - (i + 1)) (at + width) in
+  going-kept {width} {x} w e below inside fits =
+      let rest = drawsAt q random (length words - (i + 1)) (at + width) in
       let filled : take (i + 1) (set words i x) ≡ take i words ++ (x ∷ []) = rw (add-one i) (take-suc-set words i x inside) in
-      let step : left q random (length words - i) at ≡ kept x rest =
-      rw (one-less inside, e, w) (left-kept q random at (length words - (i + 1)) (rw w at pos) (rw w at fits) (rw e at below)) in
+      let step : drawsAt q random (length words - i) at ≡ kept x rest =
+      rw (one-less inside, e, w) (drawsAt-kept q random at (length words - (i + 1)) (going .least) (rw w at fits) (rw e at below)) in
       record {
+        least = going .least;
+        most = going .most;
         within = fits;
         counted = omega arith;
         whole = rw (length-set, filled) (rw step at (going .whole) ∙ onward-kept (take i words) groups x rest);
       }
 
-  pub going-dropped : {width : ℕ} → width ≡ qlen q → q ≤ groupAt q random at → i < length words → 0 < width → at + width ≤ length random
+  pub going-dropped : {width : ℕ} → width ≡ qlen q → q ≤ groupAt q random at → i < length words → at + width ≤ length random
       → Going q random start words i (at + width) (groups + 1)
-  going-dropped {width} w above inside pos fits =
-      let rest = left q random (length words - i) (at + width) in
-      let step : left q random (length words - i) at ≡ dropped rest =
-      rw (one-less inside, w) (left-dropped q random at (length words - (i + 1)) (rw w at pos) (rw w at fits) above) in
+  going-dropped {width} w above inside fits =
+      let rest = drawsAt q random (length words - i) (at + width) in
+      let step : drawsAt q random (length words - i) at ≡ dropped rest =
+      rw (one-less inside, w) (drawsAt-dropped q random at (length words - (i + 1)) (going .least) (rw w at fits) above) in
       record {
+        least = going .least;
+        most = going .most;
         within = fits;
         counted = omega arith;
         whole = rw step at (going .whole) ∙ onward-dropped (take i words) groups rest;
       }
 
-  pub going-exhausted : {n : ℕ} → length words ≡ n → i < length words → length random - at < qlen q → refused 9 ≡ drawnAnswer (left q random n start)
+  pub going-exhausted : {n : ℕ} → length words ≡ n → i < length words → length random - at < qlen q → refused 9 ≡ drawnAnswer (drawsAt q random n start)
   unfolding drawnAnswer answer firstRefusal
   going-exhausted same inside short =
-      let ended : left q random (length words) start .enough ≡ false =
-      ap (λ (d : Drawn). d .enough) (going .whole) ∙ rw (one-less inside) (left-ended q random at (length words - (i + 1)) short) in
+      let ended : drawsAt q random (length words) start .enough ≡ false =
+      ap (λ (d : Drawn). d .enough) (going .whole) ∙ rw (one-less inside) (drawsAt-ended q random at (length words - (i + 1)) short) in
       rw (← same, ended)
 
-  pub going-complete : {n : ℕ} → length words ≡ n → length words ≤ i
-      → accepted (record { values = words; groups = groups; enough = true }) ≡ drawnAnswer (left q random n start)
+  pub going-complete : {n g : ℕ} → length words ≡ n → length words ≤ i → g ≡ groups
+      → accepted (record { values = words; groups = g; enough = true }) ≡ drawnAnswer (drawsAt q random n start)
   unfolding drawnAnswer answer firstRefusal draws
-  going-complete same done =
+  going-complete same done e =
       let none : length words - i ≡ 0 = omega arith in
-      let whole : left q random (length words) start ≡ record { values = words; groups = groups; enough = true } =
+      let whole : drawsAt q random (length words) start ≡ record { values = words; groups = groups; enough = true } =
       going .whole ∙ rw (none, take-all i words done, append-nil, add-zero) in
-      rw (← same, whole)
+      rw (← same, whole, e)
 
 -- ---- what an answer tells a caller
 

@@ -47,20 +47,26 @@ fn group(random: &[u8], at: usize, width: usize) -> u32
     octet(random, at)
 }
 
-// How many octets a group has.
-fn group_width(q: u32) -> usize
-    requires { ⌜ (0 < q) × (q < 2 ^ 31) ⌝ }
-    ensures { λ r. ⌜ (r ≡ qlen q) × (0 < r) × (r ≤ 4) ⌝ }
+// The bit length of q, which fixes the octets of a group and the power of two by which a draw is reduced.
+fn bit_length(q: u32) -> u32
+    ensures { λ r. ⌜ r ≡ bitLength q ⌝ }
 {
-    ((32 - u32::leading_zeros(q) + 7) / 8) as usize
+    32 - u32::leading_zeros(q)
 }
 
-// The bits of q, each set: and with it is reduction modulo 2 to the bit length of q.
+// How many octets a group has.
+fn group_width(q: u32) -> usize
+    ensures { λ r. ⌜ r ≡ qlen q ⌝ }
+{
+    ((bit_length(q) + 7) / 8) as usize
+}
+
+// As many ones as q has bits: a number and this is the number modulo 2 to the bit length of q.
 fn group_mask(q: u32) -> u32
     requires { ⌜ (0 < q) × (q < 2 ^ 31) ⌝ }
     ensures { λ r. ⌜ r ≡ 2 ^ bitLength q - 1 ⌝ }
 {
-    (1u32 << (32 - u32::leading_zeros(q))) - 1
+    (1u32 << bit_length(q)) - 1
 }
 
 // As many draws below q as there are words, from the octets at a place on: a group of q or more is dropped and the next is taken.

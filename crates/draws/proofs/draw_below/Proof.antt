@@ -1,7 +1,7 @@
 -- `draw_below` is right because each group moves the run one step on, and it stops where no word or no group is left. Assumes nothing.
-use Prim.Native.Nat.{ℕ, _+_, _-_, _≤_, _<_, zero-le}
+use Prim.Native.Nat.{_-_, _≤_, zero-le}
 use native.Mathlib.Omega.{arith}
-use mathlib.Core.Path.{_≡_, refl, sym, _∙_}
+use mathlib.Core.Path.{_≡_, refl}
 use mathlib.Core.Logic.{⊎-elim}
 use lib.ListN.{length, length-set}
 use borrow.Author.Needs.{needs}
@@ -32,7 +32,7 @@ group-mask-requires c κs = search needs
 coefficients-holds : tie.Need-coefficients-holds Inv-loop μ-loop Inv-coefficients μ-coefficients
 coefficients-holds c =
     let start = c .before .before .before .before in
-    (zero-le, refl, going-start (start .args .q) (start .args .random .now) (start .args .start) (start .args .words .now) (start .pre .0))
+    (zero-le, refl, going-start (start .args .q) (start .args .random .now) (start .args .start) (start .args .words .now) (start .pre .1) (omega arith) (start .pre .0))
 
 loop-holds : tie.Need-loop-holds Inv-loop μ-loop Inv-coefficients μ-coefficients
 loop-holds c = c .before .coefficients .inv .2
@@ -56,9 +56,9 @@ loop-again : tie.Need-loop-again Inv-loop μ-loop Inv-coefficients μ-coefficien
 loop-again c =
     let turn = c .before .before .before in
     let called = turn .before .before .before in
-    let width = called .before .group-width .ensures .0 in
-    going-dropped (turn .loop .inv) width (rw (going-group (turn .loop .inv) width (called .group-mask .ensures) (c .before .group .ensures)) at (c .if1 .left))
-    (omega arith) (omega arith) (omega arith)
+    let width = called .before .group-width .ensures in
+    let x = going-group (turn .loop .inv) width (called .group-mask .ensures) (c .before .group .ensures) in
+    going-dropped (turn .loop .inv) width (omega arith) (omega arith) (omega arith)
 
 mul-words : tie.Need-mul-words Inv-loop μ-loop Inv-coefficients μ-coefficients
 mul-words c = omega arith
@@ -76,12 +76,9 @@ coefficients-again : tie.Need-coefficients-again Inv-loop μ-loop Inv-coefficien
 coefficients-again c =
     let turn = c .before .before .before in
     let called = turn .before .before .before in
-    let width = called .before .group-width .ensures .0 in (
-      simp length-set (omega arith),
-      simp length-set (omega arith),
-      going-kept (turn .loop .inv) width (going-group (turn .loop .inv) width (called .group-mask .ensures) (c .before .group .ensures)) (c .if1 .taken)
-          (omega arith) (omega arith) (omega arith),
-    )
+    let width = called .before .group-width .ensures in
+    let x = going-group (turn .loop .inv) width (called .group-mask .ensures) (c .before .group .ensures) in
+    (simp length-set (omega arith), simp length-set (omega arith), going-kept (turn .loop .inv) width x (c .if1 .taken) (omega arith) (omega arith))
 
 same-length : tie.Need-same-length Inv-loop μ-loop Inv-coefficients μ-coefficients
 same-length c = search needs
@@ -91,7 +88,7 @@ returns c =
     let turned = c .before .before in
     ⊎-elim (λ w. let z : ⊥ = omega arith in absurd z)
     (λ w. going-exhausted (w .1 .inv) (turned .coefficients .inv .1) (w .0 .taken)
-    (rw (turned .before .before .group-width .ensures .0) at (w .2 .taken)))
+    (rw (turned .before .before .group-width .ensures) at (w .2 .taken)))
     (c .before .coefficients-test .came)
 
 same-length-2 : tie.Need-same-length-2 Inv-loop μ-loop Inv-coefficients μ-coefficients
@@ -101,7 +98,7 @@ returns-2 : tie.Need-returns-2 Inv-loop μ-loop Inv-coefficients μ-coefficients
 returns-2 c =
     let turned = c .before .before in
     ⊎-elim
-    (λ w. rw (w .2) (going-complete (turned .coefficients .inv .2) (turned .coefficients .inv .1) (w .0 .left)))
+    (λ w. going-complete (turned .coefficients .inv .2) (turned .coefficients .inv .1) (w .0 .left) (w .2))
     (λ w. let z : ⊥ = omega arith in absurd z)
     (c .before .coefficients-test .came)
 

@@ -1,5 +1,4 @@
 -- `group` is right because a group's number is that of its first two octets, and 65536 times that of the rest. Assumes nothing.
-use Prim.Native.Nat.{ℕ}
 use native.Mathlib.Omega.{arith}
 use mathlib.Core.Path.{_≡_}
 use borrow.Author.Needs.{needs}

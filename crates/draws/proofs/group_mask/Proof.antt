@@ -1,25 +1,21 @@
 -- `group_mask` is right because 1 shifted by fewer than 32 bits is that power of two. Assumes nothing.
-use Prim.Native.Nat.{_-_, _<_, _≤_, _^_}
-use native.Mathlib.Omega.{arith}
-use lib.Count.{leadingZeros, leading-le}
+use borrow.Author.Needs.{needs}
 use lib.Pow.{pow-pos}
-use Rattle.definitions.specs.Parameters.{bitLength}
-use Rattle.draws.proofs.Groups.{leading-within, bit-shifted}
+use Rattle.draws.proofs.Groups.{bitLength-short, bit-shifted}
 use Rattle.draws.proofs.group_mask.Statement.{statement}
 use Rattle.draws.proofs.group_mask.Tie as tie
 
-sub-result : tie.Need-sub-result
-sub-result c = leading-le 32 (c .args .q)
+bit-length-requires : tie.Need-bit-length-requires
+bit-length-requires c κs = search needs
 
 shl-result : tie.Need-shl-result
-shl-result c = let zeros = leading-within (c .args .q) (c .pre .0) (c .pre .1) in omega arith
+shl-result c = rw (c .bit-length .ensures) (bitLength-short (c .before .args .q) (c .before .pre .0) (c .before .pre .1))
 
-sub-result-2 : tie.Need-sub-result-2
-sub-result-2 c = rw (bit-shifted _ (shl-result c)) (pow-pos (32 - leadingZeros 32 (c .args .q)))
+sub-result : tie.Need-sub-result
+sub-result c = rw (bit-shifted _ (shl-result c)) (pow-pos (c .bit-length .result))
 
 returns : tie.Need-returns
-unfolding bitLength
-returns c = rw (bit-shifted _ (shl-result c))
+returns c = rw (bit-shifted _ (shl-result c), c .bit-length .ensures)
 
 pub group-mask-spec : {M : Type 1} → statement M
-group-mask-spec = tie.close (tie.spec sub-result shl-result sub-result-2 returns)
+group-mask-spec = tie.close (tie.spec bit-length-requires shl-result sub-result returns)

@@ -1,5 +1,4 @@
 -- `pair` is right because a group of two octets is the first, and 256 times the second. Assumes nothing.
-use Prim.Native.Nat.{_<_}
 use native.Mathlib.Omega.{arith}
 use borrow.Author.Needs.{needs}
 use Rattle.draws.proofs.Groups.{numberOf-add}
