@@ -10,3 +10,6 @@ pub mod Refusals
 pub mod Parameters
 pub mod Octets
 pub mod Packing
+pub mod Draws
+pub mod Roomsheet
+pub mod Noise

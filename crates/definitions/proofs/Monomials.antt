@@ -17,7 +17,7 @@ use borrow.Author.Tests.{eq-eqb, ne-eqb}
 use Rattle.definitions.specs.Sequences.{sum, tabulate}
 use Rattle.definitions.specs.Parameters.{monomialCount}
 use Rattle.definitions.specs.Monomials.{Monomial, ofDegree, monomials, monomialAt, sameMonomial}
-use Rattle.definitions.proofs.Sums.{sum-single, length-tabulate, getD-tabulate}
+use Rattle.definitions.proofs.Sums.{sum-cong, sum-const, sum-append, sum-single, length-tabulate, getD-tabulate}
 
 abbrev pub totalDegree : Monomial → ℕ
 totalDegree m = m .x + m .y
@@ -155,3 +155,19 @@ monomials-once d f a b l =
     sum-single (monomialCount d) s
     (λ k u other. rw (sameMonomial-other a b (monomialAt d k) (λ g. other (monomials-apart d u s (sym g ∙ sym e)))) (mul-zero (f (monomialAt d k))))
     ∙ rw (e, sameMonomial-times a b) (mul-one (f (times a b)))
+
+-- a sum over the list of what depends on the total degree alone: there are j + 1 monomials of total degree j
+pub monomials-by-degree : (d : ℕ) (g : ℕ → ℕ) → sum (monomialCount d) (λ i. g (totalDegree (monomialAt d i))) ≡ sum (suc d) (λ j. (j + 1) * g j)
+unfolding sum
+monomials-by-degree zero g = unfold monomialCount in rw (at-zero 0) (omega arith)
+monomials-by-degree (suc d) g =
+    rw (monomialCount-suc d) (sum-append (d + 2) (monomialCount d) (λ i. at (monomialAt (suc d) i)) ∙ omega (arith, new, old, monomials-by-degree d g))
+  where
+    at : Monomial → ℕ
+    at m = g (totalDegree m)
+
+    new : sum (d + 2) (λ i. at (monomialAt (suc d) i)) ≡ (d + 2) * g (suc d)
+    new = sum-cong (d + 2) (λ i l. ap g (rw (first d i l) (omega arith))) ∙ sum-const (d + 2) (g (suc d))
+
+    old : sum (monomialCount d) (λ i. at (monomialAt (suc d) (d + 2 + i))) ≡ sum (monomialCount d) (λ i. at (monomialAt d i))
+    old = sum-cong (monomialCount d) (λ i l. ap at (rest d i))

@@ -4,18 +4,22 @@
 --   numberOf-octetsOf ..   a number and its octets, both ways
 --   coefficientAt-..       the coefficient at a place of octets put together from groups
 --   decoded-.., encoded-.. coefficients and their octets, both ways
+--   octetsFrom-cong        a polynomial's octets depend on its coefficients alone
 -- Assumes nothing.
 use Prim.Native.Nat.{ℕ, zero, suc, _+_, _*_, _/_, _%_, _^_, _≤_, _<_, suc-le-suc}
 use mathlib.Core.Path.{_≡_, refl, sym, ap, ap₂, _∙_}
 use mathlib.Core.Bool.{true}
 use mathlib.Core.List.{List, [], _∷_, _++_, append-assoc, append-nil}
-use native.Mathlib.Nat.{not-suc-le-zero, le-of-suc-le-suc, zero-lt-suc, zero-mul, suc-mul, add-comm, lt-of-lt-of-le, pow-le-pow-right, pow-suc, le-trans, mul-le-mul-right, zero-add, suc-add}
+use native.Mathlib.Nat.{mul-zero, mod-lt, div-lt-iff-lt-mul, not-suc-le-zero, le-of-suc-le-suc, zero-lt-suc, zero-mul, suc-mul, add-comm, lt-of-lt-of-le, pow-le-pow-right, pow-suc, le-trans, mul-le-mul-right, zero-add, suc-add}
 use native.Mathlib.Omega.{arith}
 use lib.ListN.{length, getD, take, drop, length-append, length-take, take-append-drop, length-drop}
 use borrow.Author.Tests.{ltb-true, lt-ltb}
 use lib.Dec.{ltb}
 use lib.Seq.{take-append-le, drop-append-le, take-at, drop-at, drop-drop, length-take-le}
 use Rattle.definitions.specs.Sequences.{tabulate, joined}
+use Rattle.definitions.specs.Parameters.{Parameters, qlen, monomialCount}
+use Rattle.definitions.specs.Monomials.{Polynomial, coefficientsOf}
+use Rattle.definitions.specs.Calls.{octetsFrom}
 use Rattle.definitions.specs.Octets.{numberOf, octetsOf, coefficientAt, decoded, encoded, coefficientsFit}
 use Rattle.definitions.proofs.Sums.{length-tabulate, getD-tabulate, tabulate-cong, every-true, every-at}
 
@@ -218,3 +222,25 @@ coefficientsFit-below q xs e i l = ltb-true (getD xs i 0) q (every-at (length xs
 pub coefficientsFit-true : (q : ℕ) (xs : List ℕ) → AllBelow q xs → coefficientsFit q xs ≡ true
 unfolding coefficientsFit
 coefficientsFit-true q xs h = every-true (length xs) (λ i l. lt-ltb (getD xs i 0) q (h i l))
+
+-- ---- a polynomial's octets
+
+quotient-below : (elements n m : ℕ) → m < elements * n → m / n < elements
+quotient-below elements zero m l = let z : ⊥ = omega (arith, mul-zero elements) in absurd z
+quotient-below elements (suc n) m l = div-lt-iff-lt-mul (zero-lt-suc n) .1 l
+
+positive-factor : (elements n m : ℕ) → m < elements * n → 0 < n
+positive-factor elements zero m l = let z : ⊥ = omega (arith, mul-zero elements) in absurd z
+positive-factor elements (suc n) m l = zero-lt-suc n
+
+-- they depend on the coefficients of its elements alone
+pub coefficientsOf-cong : (n elements : ℕ) {f g : Polynomial} → ((i : ℕ) → i < elements → (k : ℕ) → k < n → f i k ≡ g i k)
+    → coefficientsOf n elements f ≡ coefficientsOf n elements g
+unfolding coefficientsOf
+coefficientsOf-cong n elements h =
+    tabulate-cong (elements * n) (λ m l. h (m / n) (quotient-below elements n m l) (m % n) (mod-lt m (positive-factor elements n m l)))
+
+pub octetsFrom-cong : (p : Parameters) (d : ℕ) {f g : Polynomial} → ((i : ℕ) → i < monomialCount d → (k : ℕ) → k < p .n → f i k ≡ g i k)
+    → octetsFrom p d f ≡ octetsFrom p d g
+unfolding octetsFrom
+octetsFrom-cong p d h = ap (encoded (qlen (p .q))) (coefficientsOf-cong (p .n) (monomialCount d) h)

@@ -255,3 +255,7 @@ smallLength-room p = omega arith
 pub messageLength-room : (p : Parameters) → p .mlen ≤ 8 * messageLength p
 unfolding messageLength
 messageLength-room p = omega arith
+
+pub secretLength-halves : (p : Parameters) → secretLength p ≡ smallLength p + smallLength p
+unfolding secretLength
+secretLength-halves p = refl

@@ -23,6 +23,10 @@ pub firstRefusal-passes : (k : ℕ) (t : Bool) (later : List Test) → t ≡ fal
 unfolding firstRefusal
 firstRefusal-passes k t later e = rw e
 
+pub firstRefusal-last : (k : ℕ) (t : Bool) → t ≡ false → firstRefusal (refuse k t ∷ []) ≡ 0
+unfolding firstRefusal
+firstRefusal-last k t e = rw e
+
 -- a list that gives 0 has passed its first test
 pub firstRefusal-passed : (k : ℕ) (t : Bool) (later : List Test) → 0 < k → firstRefusal (refuse k t ∷ later) ≡ 0
     → (t ≡ false) × (firstRefusal later ≡ 0)

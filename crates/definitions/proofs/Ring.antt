@@ -1,7 +1,13 @@
--- The laws of the product with t^n = 1. An element a is read as the map φ ↦ a_0 φ(0) + .. + a_(n-1) φ(n-1) (`pair`): a product pairs
--- as one factor after the other does (`pair-conv`), so its laws are those of + modulo n. Assumes nothing.
+-- The laws of the product with t^n = 1.
+--
+--   pair             an element read as a linear map: a_0 φ(0) + .. + a_(n-1) φ(n-1)
+--   AtMost           every coefficient at most α
+--   t                t itself
+--
+-- A product pairs as one factor after the other does (`pair-conv`), so the product's laws are those of + modulo n.
+-- Assumes nothing.
 use Prim.Native.Nat.{ℕ, zero, suc, _+_, _-_, _*_, _%_, _≤_, _<_, zero-le}
-use native.Mathlib.Nat.{sub-zero, mul-one, zero-add, suc-add, add-assoc, add-comm, mul-zero, zero-mul, mul-comm, mul-assoc, add-mul, mul-left-comm, mul-le-mul, mod-lt, mod-eq-of-lt, mod-self, zero-mod, mod-add-mod, add-mod-mod, add-mod-right}
+use native.Mathlib.Nat.{sub-zero, mul-one, zero-add, suc-add, add-assoc, add-comm, mul-zero, zero-mul, mul-comm, mul-assoc, add-mul, mul-left-comm, mul-le-mul-left, mod-lt, mod-eq-of-lt, mod-self, zero-mod, mod-add-mod, add-mod-mod, add-mod-right}
 use native.Mathlib.Numerals.{add-one}
 use native.Mathlib.Omega.{arith}
 use native.Mathlib.Decide.{decLt}
@@ -10,6 +16,10 @@ use Rattle.definitions.specs.Sequences.{sum, sameNumber}
 use Rattle.definitions.specs.Ring.{Element, add, scale, conv, one, power}
 use Rattle.definitions.proofs.Sums.{sameNumber-self, sameNumber-other, sum-cong, sum-add, sum-scale, sum-scale-right, sum-const, sum-zero, sum-comm, sum-le, sum-single, sum-pick-left}
 use Rattle.definitions.proofs.Congruence.{Cong, cong-refl, cong-mul, cong-sum}
+
+-- every coefficient at most α
+abbrev pub AtMost : ℕ → ℕ → Element → Type 0
+AtMost α n a = (k : ℕ) → k < n → a k ≤ α
 
 unfoldable pub pair : ℕ → Element → (ℕ → ℕ) → ℕ
 pair n a φ = sum n (λ i. a i * φ i)
@@ -75,11 +85,15 @@ conv-assoc n a b c k =
     ∙ pair-inner n a (λ i _. pair-inner n b (λ j _. pair-inner n c (λ m _. ap (λ (x : ℕ). sameNumber x k) (mod-assoc n i j m))))
     ∙ sym (conv-pair n a (conv n b c) k ∙ pair-inner n a (λ i _. pair-conv n b c (λ m. sameNumber ((i + m) % n) k)))
 
+pub conv-left-comm : (n : ℕ) (a b c : Element) (k : ℕ) → conv n a (conv n b c) k ≡ conv n b (conv n a c) k
+conv-left-comm n a b c k =
+    let turn : conv n a b ≡ conv n b a = fun-ext (conv-comm n a b) in
+    sym (conv-assoc n a b c k) ∙ ap (λ (u : Element). conv n u c k) turn ∙ conv-assoc n b a c k
+
 pub conv-interchange : (n : ℕ) (a b c d : Element) (k : ℕ) → conv n (conv n a b) (conv n c d) k ≡ conv n (conv n a c) (conv n b d) k
 conv-interchange n a b c d k =
-    let right : (u v w : Element) → conv n (conv n u v) w ≡ conv n u (conv n v w) = λ u v w. fun-ext (conv-assoc n u v w) in
-    let turn : conv n b c ≡ conv n c b = fun-ext (conv-comm n b c) in
-    rw (right a b (conv n c d), ← right b c d, turn, right c b d, ← right a c (conv n b d))
+    let inner : conv n b (conv n c d) ≡ conv n c (conv n b d) = fun-ext (conv-left-comm n b c d) in
+    conv-assoc n a b (conv n c d) k ∙ ap (λ (u : Element). conv n a u k) inner ∙ sym (conv-assoc n a c (conv n b d) k)
 
 -- the product is linear in each factor
 
@@ -151,13 +165,21 @@ conv-at n a b {k} s = sum-cong n (λ i l. ap (λ (x : ℕ). a i * x) (at i l))
         (λ j u other. rw (sameNumber-other (λ (e : (i + j) % n ≡ k). other (turned n i j k l u e))) (mul-zero (b j)))
         ∙ rw (turns n i k l s, sameNumber-self k) (mul-one (b ((k + (n - i)) % n)))
 
-pub conv-le : (n α β : ℕ) (a b : Element) (k : ℕ) → ((i : ℕ) → i < n → a i ≤ α) → ((j : ℕ) → j < n → b j ≤ β) → conv n a b k ≤ n * α * β
-conv-le n α β a b k h g = elim (decLt k n) [ yes s ↦ inside s | no s ↦ rw (conv-outside n a b {k = k} (omega arith)) zero-le ]
+pub sum-le-most : (n α : ℕ) (a : Element) → AtMost α n a → sum n a ≤ n * α
+sum-le-most n α a h = rw (← sum-const n α) (sum-le n h)
+
+-- a coefficient is at most the largest of one factor times the sum of the other's
+pub conv-le-sum : (n α : ℕ) (a b : Element) → AtMost α n a → (k : ℕ) → conv n a b k ≤ α * sum n b
+conv-le-sum n α a b h k = elim (decLt k n) [ yes s ↦ inside s | no s ↦ rw (conv-outside n a b {k = k} (omega arith)) zero-le ]
   where
-    inside : k < n → conv n a b k ≤ n * α * β
-    inside s =
-        rw (conv-at n a b s, mul-assoc n α β, ← sum-const n (α * β))
-        (sum-le n (λ i l. mul-le-mul (h i l) (g ((k + (n - i)) % n) (mod-lt (k + (n - i)) {m = n} (omega arith)))))
+    term-le : (i : ℕ) → i < n → b i * a ((k + (n - i)) % n) ≤ α * b i
+    term-le i l = rw (mul-comm α (b i)) (mul-le-mul-left (b i) (h ((k + (n - i)) % n) (mod-lt (k + (n - i)) (omega arith))))
+
+    inside : k < n → conv n a b k ≤ α * sum n b
+    inside s = rw (conv-comm n a b k, conv-at n b a s, ← sum-scale n α b) (sum-le n term-le)
+
+pub conv-le : (n α β : ℕ) (a b : Element) → AtMost α n a → AtMost β n b → (k : ℕ) → conv n a b k ≤ n * α * β
+conv-le n α β a b h g k = omega (arith, conv-le-sum n α a b h k, mul-le-mul-left α (sum-le-most n β b g))
 
 -- t^x times an element moves each coefficient x places on
 pub conv-shift : (n : ℕ) {x : ℕ} → x < n → (a : Element) {k : ℕ} → k < n → conv n (λ j. sameNumber x j) a k ≡ a ((k + (n - x)) % n)

@@ -39,6 +39,9 @@ pub evaluated-one : (n : ℕ) (ux uy : Element) {k : ℕ} → k < n → evaluate
 unfolding evaluated power
 evaluated-one n ux uy l = conv-one n one l
 
+last-term : (n d : ℕ) (a ux uy : Element) {k : ℕ} → k < n → conv n a (evaluated n (monomialAt d (monomialCount d - 1)) ux uy) k ≡ a k
+last-term n d a ux uy {k} l = conv-cong n (λ i s. refl) (λ i s. rw (monomials-last d) (evaluated-one n ux uy s)) k ∙ conv-one-right n a l
+
 -- a value is its constant, and the terms before it
 pub value-split : (n d : ℕ) (f : Polynomial) (ux uy : Element) {k : ℕ} → k < n
     → value n d f ux uy k ≡ valueOver (monomialCount d - 1) n d f ux uy k + f (monomialCount d - 1) k
@@ -46,9 +49,9 @@ unfolding value
 value-split n d f ux uy {k} l =
     let last : ℕ = monomialCount d - 1 in
     let e : monomialCount d ≡ suc last = omega (arith, monomialCount-pos d) in
-    let end : conv n (f last) (evaluated n (monomialAt d last) ux uy) k ≡ f last k =
-    conv-cong n (λ i s. refl) (λ i s. rw (monomials-last d) (evaluated-one n ux uy s)) k ∙ conv-one-right n (f last) l in
-    ap (λ (terms : ℕ). valueOver terms n d f ux uy k) e ∙ valueOver-suc last n d f ux uy k ∙ ap (λ (z : ℕ). valueOver last n d f ux uy k + z) end
+    ap (λ (terms : ℕ). valueOver terms n d f ux uy k) e
+    ∙ valueOver-suc last n d f ux uy k
+    ∙ ap (λ (z : ℕ). valueOver last n d f ux uy k + z) (last-term n d (f last) ux uy l)
 
 pub valueOver-cong : (terms n d : ℕ) {f g : Polynomial} (ux uy : Element) → ((i : ℕ) → i < terms → (k : ℕ) → k < n → f i k ≡ g i k)
     → (k : ℕ) → valueOver terms n d f ux uy k ≡ valueOver terms n d g ux uy k
