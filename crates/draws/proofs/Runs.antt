@@ -5,8 +5,8 @@
 --   onward           what is kept and how many groups are taken, then the rest of the run
 --   Going            a run from start that has filled i words and stands at a place of the octets
 -- Assumes nothing.
-use Prim.Native.Nat.{ℕ, suc, _+_, _-_, _/_, _%_, _^_, _≤_, _<_, zero-le}
-use native.Mathlib.Nat.{add-zero, zero-add, sub-zero, div-eq-of-lt, div-eq-sub-div}
+use Prim.Native.Nat.{ℕ, suc, _+_, _-_, _*_, _/_, _%_, _^_, _≤_, _<_, zero-le}
+use native.Mathlib.Nat.{add-zero, zero-add, sub-zero, div-eq-of-lt, div-eq-sub-div, mul-div-le, mul-le-mul-left}
 use native.Mathlib.Numerals.{add-one}
 use native.Mathlib.Omega.{arith}
 use mathlib.Core.Path.{_≡_, refl, _∙_, ap}
@@ -15,7 +15,6 @@ use mathlib.Core.List.{List, [], _∷_, _++_, append-assoc, append-nil}
 use lib.ListN.{length, take, drop, set, length-drop, length-set}
 use lib.Seq.{drop-drop, take-suc-set, take-all}
 use lib.Bits.{bitAnd, and-mask}
-use borrow.Author.Tests.{lt-ltb, le-ltb}
 use Rattle.definitions.specs.Sequences.{tabulate}
 use Rattle.definitions.specs.Refusals.{firstRefusal, refuse, refused, accepted, answer}
 use Rattle.definitions.specs.Parameters.{bitLength, qlen}
@@ -23,6 +22,7 @@ use Rattle.definitions.specs.Octets.{numberOf}
 use Rattle.definitions.specs.Draws.{Drawn, kept, dropped, candidates, draws}
 use Rattle.definitions.proofs.Sums.{tabulate-cong}
 use Rattle.definitions.proofs.Octets.{coefficientAt-zero, coefficientAt-suc}
+use Rattle.definitions.proofs.Draws.{draws-kept, draws-dropped, draws-groups-le, length-candidates}
 use Rattle.definitions.proofs.Parameters.{qlen-least, qlen-most}
 use Rattle.draws.specs.Runs.{drawnAnswer}
 
@@ -55,19 +55,24 @@ module _ (q : ℕ) (random : List ℕ) (at : ℕ) where
 
   pub drawsAt-kept : (count : ℕ) → 0 < qlen q → at + qlen q ≤ length random → groupAt q random at < q
       → drawsAt q random (suc count) at ≡ kept (groupAt q random at) (drawsAt q random count (at + qlen q))
-  unfolding draws
-  drawsAt-kept count pos fits below = rw (candidates-at pos fits, lt-ltb (groupAt q random at) q below)
+  drawsAt-kept count pos fits below = rw (candidates-at pos fits) (draws-kept q count (groupAt q random at) _ below)
 
   pub drawsAt-dropped : (count : ℕ) → 0 < qlen q → at + qlen q ≤ length random → q ≤ groupAt q random at
       → drawsAt q random (suc count) at ≡ dropped (drawsAt q random (suc count) (at + qlen q))
-  unfolding draws
-  drawsAt-dropped count pos fits above = rw (candidates-at pos fits, le-ltb (groupAt q random at) q above)
+  drawsAt-dropped count pos fits above = rw (candidates-at pos fits) (draws-dropped q count (groupAt q random at) _ above)
 
   pub drawsAt-ended : (count : ℕ) → length random - at < qlen q → drawsAt q random (suc count) at .enough ≡ false
   unfolding draws
   drawsAt-ended count short =
       let incomplete : length (drop at random) < qlen q = simp length-drop short in
       rw (candidates-none q (drop at random) incomplete)
+
+  -- the groups taken are there
+  pub drawsAt-within : (count : ℕ) → at ≤ length random → at + qlen q * drawsAt q random count at .groups ≤ length random
+  drawsAt-within count h =
+      let taken : drawsAt q random count at .groups ≤ length (drop at random) / qlen q =
+      rw length-candidates at (draws-groups-le q count (candidates q (drop at random))) in
+      omega (arith, length-drop at random, mul-le-mul-left (qlen q) taken, mul-div-le (length (drop at random)) (qlen q))
 
 -- ---- a run under way
 

@@ -1,9 +1,10 @@
 // Draws from random octets (01, "Draws from lent random octets"): numbers below q, and small elements.
 // A run of draws is refused where the octets end before its last draw is complete. The contracts cite definitions/specs/Draws.antt.
+use parameters::lengths;
 ghost use mathlib.Core.Path.{_≡_};
 ghost use Prim.Native.Nat.{_+_, _-_, _≤_, _<_, _^_};
 ghost use lib.ListN.{length, take, drop};
-ghost use Rattle.definitions.specs.Parameters.{bitLength, qlen};
+ghost use Rattle.definitions.specs.Parameters.{bitLength};
 ghost use Rattle.definitions.specs.Octets.{numberOf};
 ghost use Rattle.definitions.specs.Draws.{candidates, draws};
 ghost use Rattle.draws.specs.Runs.{said, drawnAnswer};
@@ -47,26 +48,12 @@ fn group(random: &[u8], at: usize, width: usize) -> u32
     octet(random, at)
 }
 
-// The bit length of q, which fixes the octets of a group and the power of two by which a draw is reduced.
-fn bit_length(q: u32) -> u32
-    ensures { λ r. ⌜ r ≡ bitLength q ⌝ }
-{
-    32 - u32::leading_zeros(q)
-}
-
-// How many octets a group has.
-fn group_width(q: u32) -> usize
-    ensures { λ r. ⌜ r ≡ qlen q ⌝ }
-{
-    ((bit_length(q) + 7) / 8) as usize
-}
-
 // As many ones as q has bits: a number and this is the number modulo 2 to the bit length of q.
 fn group_mask(q: u32) -> u32
     requires { ⌜ (0 < q) × (q < 2 ^ 31) ⌝ }
     ensures { λ r. ⌜ r ≡ 2 ^ bitLength q - 1 ⌝ }
 {
-    (1u32 << bit_length(q)) - 1
+    (1u32 << lengths::bit_length(q)) - 1
 }
 
 // As many draws below q as there are words, from the octets at a place on: a group of q or more is dropped and the next is taken.
@@ -74,7 +61,7 @@ pub fn draw_below(random: &[u8], start: usize, q: u32, words: &mut [u32]) -> Run
     requires { ⌜ (start ≤ length (now random)) × (0 < q) × (q < 2 ^ 31) ⌝ }
     ensures { λ r. ⌜ said r (now (words .exit)) ≡ drawnAnswer (draws q (length (now (words .entry))) (candidates q (drop start (now (random .entry))))) ⌝ }
 {
-    let width = group_width(q);
+    let width = lengths::octets_of_coefficient(q);
     let mask = group_mask(q);
     let mut at = start;
     let mut groups: usize = 0;

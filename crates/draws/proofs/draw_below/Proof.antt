@@ -22,9 +22,9 @@ Inv-coefficients random start q words₀ width mask at₀ groups₀ i₀ words a
 abbrev μ-coefficients : tie.MeasureT-coefficients
 μ-coefficients random start q words₀ width mask at₀ groups₀ i₀ words at groups i = length words - i
 
-group-width-requires :
-    tie.Need-group-width-requires Inv-loop μ-loop Inv-coefficients μ-coefficients
-group-width-requires c κs = search needs
+octets-of-coefficient-requires :
+    tie.Need-octets-of-coefficient-requires Inv-loop μ-loop Inv-coefficients μ-coefficients
+octets-of-coefficient-requires c κs = search needs
 
 group-mask-requires : tie.Need-group-mask-requires Inv-loop μ-loop Inv-coefficients μ-coefficients
 group-mask-requires c κs = search needs
@@ -56,7 +56,7 @@ loop-again : tie.Need-loop-again Inv-loop μ-loop Inv-coefficients μ-coefficien
 loop-again c =
     let turn = c .before .before .before in
     let called = turn .before .before .before in
-    let width = called .before .group-width .ensures in
+    let width = called .before .octets-of-coefficient .ensures in
     let x = going-group (turn .loop .inv) width (called .group-mask .ensures) (c .before .group .ensures) in
     going-dropped (turn .loop .inv) width (omega arith) (omega arith) (omega arith)
 
@@ -76,7 +76,7 @@ coefficients-again : tie.Need-coefficients-again Inv-loop μ-loop Inv-coefficien
 coefficients-again c =
     let turn = c .before .before .before in
     let called = turn .before .before .before in
-    let width = called .before .group-width .ensures in
+    let width = called .before .octets-of-coefficient .ensures in
     let x = going-group (turn .loop .inv) width (called .group-mask .ensures) (c .before .group .ensures) in
     (simp length-set (omega arith), simp length-set (omega arith), going-kept (turn .loop .inv) width x (c .if1 .taken) (omega arith) (omega arith))
 
@@ -88,7 +88,7 @@ returns c =
     let turned = c .before .before in
     ⊎-elim (λ w. let z : ⊥ = omega arith in absurd z)
     (λ w. going-exhausted (w .1 .inv) (turned .coefficients .inv .1) (w .0 .taken)
-    (rw (turned .before .before .group-width .ensures) at (w .2 .taken)))
+    (rw (turned .before .before .octets-of-coefficient .ensures) at (w .2 .taken)))
     (c .before .coefficients-test .came)
 
 same-length-2 : tie.Need-same-length-2 Inv-loop μ-loop Inv-coefficients μ-coefficients
@@ -110,7 +110,7 @@ draw-below-spec =
     μ-loop
     Inv-coefficients
     μ-coefficients
-    group-width-requires
+    octets-of-coefficient-requires
     group-mask-requires
     coefficients-holds
     loop-holds
