@@ -1,22 +1,30 @@
 -- 01, "Draws from lent random octets" (keys, sealing, opening, adding, zero test) with "Refusal table": the answer of every call.
 --
+--   01's form is a ciphertext; its r is the mask here and its e the noise.
+--
 --   smallOf          the small element packed in some octets
 --   secretX, secretY u_x and u_y of a secret's octets
 --   polynomialFrom   the polynomial over R_q in some octets
 --   octetsFrom       the octets of a polynomial
+--   decodedElements  the coefficients of so many elements from octets
 --   secretPadded     whether both halves of a secret have zero in their unused bits
 --   elementsFit      whether each of so many elements' coefficients is below q
+--   lengthTests      the tests up to the length test
+--   keyDraws         the elements drawn for a key;  keyConstant, keyPairOf: its constant, and the octets of both keys
+--   maskDraws        the elements drawn for r;  noiseOf: those of e;  encryptedWith: m + X × r + ℓ × e
+--   decryptedValue   w;  decryptedElement: w modulo ℓ;  tailClear: the tail test;  messageOf: the octets of a message
 --   ..Answer         keygenAnswer (01: key making), isZeroAnswer (zero test), encryptAnswer (sealing), addAnswer (adding),
 --                    decryptAnswer (opening): the answer, from the octets given and the lengths of the buffers lent
---   ..Exit           the same with every output and the work words at exit, from what they held before
+--   ..Leaves         what the caller has at exit: the number, every output and the work words, from an answer and what they held before
+--   ..Exit           the same from what the call was lent: what contracts equate
 --
 -- Each answer is two ordered lists of tests, up to the length test and after it, and the values that are given where no test applies.
 -- Assumes nothing.
-use Prim.Native.Nat.{ℕ, suc, _+_, _-_, _*_, _%_}
+use Prim.Native.Nat.{ℕ, _+_, _-_, _*_, _%_}
 use mathlib.Core.Bool.{Bool, cond, _&&_, _||_, not}
 use mathlib.Core.List.{List, [], _∷_, _++_}
 use lib.Dec.{eqb, ltb}
-use lib.ListN.{length, getD, take, drop}
+use lib.ListN.{length, take, drop}
 use Rattle.definitions.specs.Sequences.{every, tabulate}
 use Rattle.definitions.specs.Refusals.{Test, refuse, Answer, answer, number, output, workAtExit}
 use Rattle.definitions.specs.Parameters.{Parameters, degree, smallBits, setTests, qlen, monomialCount, smallLength, secretLength, publicLength, ciphertextLength, messageLength, workLength}
@@ -193,7 +201,7 @@ decryptAnswer p secret ciphertext messageLen workLen =
     ∷ [])
     (messageOf p (decryptedFrom p secret ciphertext))
 
--- ---- what the caller has at exit: the number, every output and the work words
+-- ---- what the caller has at exit: the number, every output and the work words, from the answer and what was there before
 
 pub record KeygenExit : Type 0 where
   pub refusal : ℕ
@@ -202,9 +210,8 @@ pub record KeygenExit : Type 0 where
   pub used : ℕ
   pub work : List ℕ
 
-unfoldable pub keygenExit : Parameters → List ℕ → List ℕ → List ℕ → ℕ → List ℕ → KeygenExit
-keygenExit p random secret public used work =
-    let a = keygenAnswer p random (length secret) (length public) (length work) in
+abbrev pub keygenLeaves : Answer KeyPair → List ℕ → List ℕ → ℕ → List ℕ → KeygenExit
+keygenLeaves a secret public used work =
     record {
       refusal = number a;
       secret = output (λ k. k .secret) a secret;
@@ -213,15 +220,20 @@ keygenExit p random secret public used work =
       work = workAtExit a work;
     }
 
+unfoldable pub keygenExit : Parameters → List ℕ → List ℕ → List ℕ → ℕ → List ℕ → KeygenExit
+keygenExit p random secret public used work =
+    keygenLeaves (keygenAnswer p random (length secret) (length public) (length work)) secret public used work
+
 pub record IsZeroExit : Type 0 where
   pub refusal : ℕ
   pub zero : ℕ
   pub work : List ℕ
 
+abbrev pub isZeroLeaves : Answer Bool → ℕ → List ℕ → IsZeroExit
+isZeroLeaves a old work = record { refusal = number a; zero = output (λ holds. cond holds 1 0) a old; work = workAtExit a work }
+
 unfoldable pub isZeroExit : Parameters → List ℕ → List ℕ → ℕ → List ℕ → IsZeroExit
-isZeroExit p secret public answered work =
-    let a = isZeroAnswer p secret public (length work) in
-    record { refusal = number a; zero = output (λ holds. cond holds 1 0) a answered; work = workAtExit a work }
+isZeroExit p secret public old work = isZeroLeaves (isZeroAnswer p secret public (length work)) old work
 
 pub record EncryptExit : Type 0 where
   pub refusal : ℕ
@@ -229,9 +241,8 @@ pub record EncryptExit : Type 0 where
   pub used : ℕ
   pub work : List ℕ
 
-unfoldable pub encryptExit : Parameters → List ℕ → List ℕ → List ℕ → List ℕ → ℕ → List ℕ → EncryptExit
-encryptExit p public message random ciphertext used work =
-    let a = encryptAnswer p public message random (length ciphertext) (length work) in
+abbrev pub encryptLeaves : Answer Encrypted → List ℕ → ℕ → List ℕ → EncryptExit
+encryptLeaves a ciphertext used work =
     record {
       refusal = number a;
       ciphertext = output (λ e. e .ciphertext) a ciphertext;
@@ -239,21 +250,28 @@ encryptExit p public message random ciphertext used work =
       work = workAtExit a work;
     }
 
+unfoldable pub encryptExit : Parameters → List ℕ → List ℕ → List ℕ → List ℕ → ℕ → List ℕ → EncryptExit
+encryptExit p public message random ciphertext used work =
+    encryptLeaves (encryptAnswer p public message random (length ciphertext) (length work)) ciphertext used work
+
 pub record AddExit : Type 0 where
   pub refusal : ℕ
   pub sum : List ℕ
 
+abbrev pub addLeaves : Answer (List ℕ) → List ℕ → AddExit
+addLeaves a sum = record { refusal = number a; sum = output (λ c. c) a sum }
+
 unfoldable pub addExit : Parameters → List ℕ → List ℕ → List ℕ → AddExit
-addExit p a b sum =
-    let answer = addAnswer p a b (length sum) in
-    record { refusal = number answer; sum = output (λ c. c) answer sum }
+addExit p a b sum = addLeaves (addAnswer p a b (length sum)) sum
 
 pub record DecryptExit : Type 0 where
   pub refusal : ℕ
   pub message : List ℕ
   pub work : List ℕ
 
+abbrev pub decryptLeaves : Answer (List ℕ) → List ℕ → List ℕ → DecryptExit
+decryptLeaves a message work = record { refusal = number a; message = output (λ m. m) a message; work = workAtExit a work }
+
 unfoldable pub decryptExit : Parameters → List ℕ → List ℕ → List ℕ → List ℕ → DecryptExit
 decryptExit p secret ciphertext message work =
-    let a = decryptAnswer p secret ciphertext (length message) (length work) in
-    record { refusal = number a; message = output (λ m. m) a message; work = workAtExit a work }
+    decryptLeaves (decryptAnswer p secret ciphertext (length message) (length work)) message work

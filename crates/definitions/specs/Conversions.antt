@@ -1,6 +1,7 @@
 -- 01, "What the library does": the conversions between octets and coefficient words, with "Refusal table".
 --
---   fromOctetsAnswer so many ring elements from octets; toOctetsAnswer: back. Ring elements are 1, a public key is N(dX), a ciphertext N(D)
+--   fromOctetsAnswer so many ring elements from octets; toOctetsAnswer: back
+--   ringElements     how many they are of a ring element, publicElements: of a public key, ciphertextElements: of a ciphertext
 --   smallFromAnswer  a small element from octets; smallToAnswer: back
 --   ConversionExit   the number and the output at exit, from what it held before
 -- Assumes nothing.
@@ -10,9 +11,18 @@ use mathlib.Core.List.{List, [], _∷_}
 use lib.Dec.{eqb}
 use lib.ListN.{length}
 use Rattle.definitions.specs.Refusals.{refuse, Answer, answer, number, output}
-use Rattle.definitions.specs.Parameters.{Parameters, smallBits, qlen, smallLength, elementsLength}
+use Rattle.definitions.specs.Parameters.{Parameters, degree, smallBits, qlen, monomialCount, smallLength, elementsLength}
 use Rattle.definitions.specs.Octets.{encoded, coefficientsFit, unpacked, packed, paddingClear}
 use Rattle.definitions.specs.Calls.{lengthTests, elementsFit, decodedElements}
+
+abbrev pub ringElements : Parameters → ℕ
+ringElements p = 1
+
+abbrev pub publicElements : Parameters → ℕ
+publicElements p = monomialCount (p .dx)
+
+abbrev pub ciphertextElements : Parameters → ℕ
+ciphertextElements p = monomialCount (degree p)
 
 unfoldable pub fromOctetsAnswer : Parameters → ℕ → List ℕ → ℕ → Answer (List ℕ)
 fromOctetsAnswer p elements octets wordsLen =

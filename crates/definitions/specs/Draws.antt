@@ -30,9 +30,9 @@ abbrev pub dropped : Drawn → Drawn
 dropped rest = record { values = rest .values; groups = suc (rest .groups); enough = rest .enough }
 
 unfoldable pub draws : ℕ → ℕ → List ℕ → Drawn
-draws q zero groups = record { values = []; groups = 0; enough = true }
+draws q zero candidates = record { values = []; groups = 0; enough = true }
 draws q (suc count) [] = record { values = []; groups = 0; enough = false }
-draws q (suc count) (x ∷ groups) = cond (ltb x q) (kept x (draws q count groups)) (dropped (draws q (suc count) groups))
+draws q (suc count) (x ∷ later) = cond (ltb x q) (kept x (draws q count later)) (dropped (draws q (suc count) later))
 
 unfoldable pub secretDrawn : Parameters → List ℕ → List ℕ
 secretDrawn p random = unpacked (smallBits (p .l)) (p .n) (take (smallLength p) random)

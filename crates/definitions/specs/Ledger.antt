@@ -1,7 +1,9 @@
 -- 01, "The book of sums": the list of calls, what it gives, and the ledger that is kept of it.
 --
+-- 01's book is the ledger here, and its forms are ciphertexts.
+--
 --   Operand          what an addition was lent: a ciphertext that the list gave, by its place, or any other octets
---   Call             an encryption or an addition, with its buffers' lengths
+--   Call             an encryption or an addition, with what it was lent: the key octets and its buffers' lengths with it
 --   Given            the ciphertexts given so far, oldest first: the state of the list
 --   callAnswer       the answer of a call, by the refusal table
 --   givenAfter       the state after a call;  givenBy: after a list of calls
@@ -9,9 +11,11 @@
 --   events           of a list of calls, in order
 --   Entry            a count s, and a whole number for each place (01: a power of t)
 --   ledger           the entries of a list of events, oldest first
---   Legal            each accepted addition was lent two ciphertexts of the list; a refused call may have been lent anything
+--   Legal            each accepted encryption was lent the list's key, each accepted addition two ciphertexts of the list; a refused call may
+--                    have been lent anything. The list starts with nothing given: the state [] (Demand3.antt)
 -- Assumes nothing.
 use Prim.Native.Nat.{ℕ, _+_, _<_}
+use mathlib.Core.Path.{_≡_}
 use mathlib.Core.List.{List, [], _∷_, _++_}
 use lib.ListN.{length, getD}
 use Rattle.definitions.specs.Refusals.{Answer, untouched, refused, accepted, output}
@@ -24,7 +28,7 @@ pub data Operand : Type 0 where
   other : List ℕ → Operand
 
 pub data Call : Type 0 where
-  encrypt : (message random : List ℕ) (ciphertextLen workLen : ℕ) → Call
+  encrypt : (key message random : List ℕ) (ciphertextLen workLen : ℕ) → Call
   addition : (a b : Operand) (sumLen : ℕ) → Call
 
 abbrev pub Given : Type 0
@@ -40,34 +44,34 @@ ciphertextAnswer (untouched k) = untouched k
 ciphertextAnswer (refused k) = refused k
 ciphertextAnswer (accepted e) = accepted (e .ciphertext)
 
-unfoldable pub callAnswer : Parameters → List ℕ → Given → Call → Answer (List ℕ)
-callAnswer p public state (encrypt message random ciphertextLen workLen) =
-    ciphertextAnswer (encryptAnswer p public message random ciphertextLen workLen)
-callAnswer p public state (addition a b sumLen) = addAnswer p (operandOf state a) (operandOf state b) sumLen
+unfoldable pub callAnswer : Parameters → Given → Call → Answer (List ℕ)
+callAnswer p state (encrypt key message random ciphertextLen workLen) =
+    ciphertextAnswer (encryptAnswer p key message random ciphertextLen workLen)
+callAnswer p state (addition a b sumLen) = addAnswer p (operandOf state a) (operandOf state b) sumLen
 
-unfoldable pub givenAfter : Parameters → List ℕ → Given → Call → Given
-givenAfter p public state call = output (λ c. state ++ (c ∷ [])) (callAnswer p public state call) state
+unfoldable pub givenAfter : Parameters → Given → Call → Given
+givenAfter p state call = output (λ c. state ++ (c ∷ [])) (callAnswer p state call) state
 
-unfoldable pub givenBy : Parameters → List ℕ → Given → List Call → Given
-givenBy p public state [] = state
-givenBy p public state (call ∷ calls) = givenBy p public (givenAfter p public state call) calls
+unfoldable pub givenBy : Parameters → Given → List Call → Given
+givenBy p state [] = state
+givenBy p state (call ∷ calls) = givenBy p (givenAfter p state call) calls
 
 pub data Event : Type 0 where
   nothing : Event
   encrypted : List ℕ → Event
   added : ℕ → ℕ → Event
 
--- what the ledger is told of a call that is accepted
+-- what the ledger is told of a call that is accepted; an addition of other octets is in no legal list
 unfoldable pub eventOf : Call → Event
-eventOf (encrypt message random ciphertextLen workLen) = encrypted message
+eventOf (encrypt key message random ciphertextLen workLen) = encrypted message
 eventOf (addition (given i) (given j) sumLen) = added i j
 eventOf (addition (given i) (other b) sumLen) = nothing
 eventOf (addition (other a) b sumLen) = nothing
 
-unfoldable pub events : Parameters → List ℕ → Given → List Call → List Event
-events p public state [] = []
-events p public state (call ∷ calls) =
-    output (λ c. eventOf call) (callAnswer p public state call) nothing ∷ events p public (givenAfter p public state call) calls
+unfoldable pub events : Parameters → Given → List Call → List Event
+events p state [] = []
+events p state (call ∷ calls) =
+    output (λ c. eventOf call) (callAnswer p state call) nothing ∷ events p (givenAfter p state call) calls
 
 pub record Entry : Type 0 where
   pub count : ℕ
@@ -96,17 +100,17 @@ unfoldable pub FromList : Given → Operand → Type 0
 FromList state (given i) = i < length state
 FromList state (other octets) = ⊥
 
--- what is asked of a call that is accepted
-unfoldable pub LentFromList : Given → Call → Type 0
-LentFromList state (encrypt message random ciphertextLen workLen) = Unit {0}
-LentFromList state (addition a b sumLen) = FromList state a × FromList state b
+-- what is asked of a call that is accepted: an encryption is under the list's key, an addition of ciphertexts that the list gave
+unfoldable pub FromListUnder : List ℕ → Given → Call → Type 0
+FromListUnder public state (encrypt key message random ciphertextLen workLen) = key ≡ public
+FromListUnder public state (addition a b sumLen) = FromList state a × FromList state b
 
-unfoldable pub LegalCall : Given → Call → Answer (List ℕ) → Type 0
-LegalCall state call (untouched k) = Unit {0}
-LegalCall state call (refused k) = Unit {0}
-LegalCall state call (accepted c) = LentFromList state call
+unfoldable pub LegalCall : List ℕ → Given → Call → Answer (List ℕ) → Type 0
+LegalCall public state call (untouched k) = Unit {0}
+LegalCall public state call (refused k) = Unit {0}
+LegalCall public state call (accepted c) = FromListUnder public state call
 
 unfoldable pub Legal : Parameters → List ℕ → Given → List Call → Type 0
 Legal p public state [] = Unit {0}
 Legal p public state (call ∷ calls) =
-    LegalCall state call (callAnswer p public state call) × Legal p public (givenAfter p public state call) calls
+    LegalCall public state call (callAnswer p state call) × Legal p public (givenAfter p state call) calls

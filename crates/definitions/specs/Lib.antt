@@ -1,4 +1,4 @@
--- Document 01 as definitions, in its order. Each file opens with its dictionary.
+-- Document 01 as definitions. Each file opens with its dictionary and names the section of 01 that it renders.
 pub mod Sequences
 pub mod Refusals
 pub mod Parameters
@@ -10,4 +10,5 @@ pub mod Calls
 pub mod Conversions
 pub mod Ledger
 pub mod Roomsheet
+pub mod Demand3
 pub mod WorkedCases

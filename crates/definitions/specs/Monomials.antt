@@ -7,7 +7,7 @@
 --   Polynomial       a polynomial in x and y: the element at each place of its degree's list
 --   polynomialOf     the polynomial whose elements stand end to end in a list of coefficients
 --   coefficientsOf   its coefficients end to end, element after element
---   constantTerm     the polynomial of degree d that is an element, as its constant
+--   constantTerm     the polynomial of degree d that is an element, as its constant: the constant is the last of the list
 --   sumOf, productOf the sum of two polynomials of one degree; the product, of degree d + e
 --   evaluated        a monomial at (u_x, u_y)
 --   valueOver        the sum of the first terms of a polynomial at (u_x, u_y); value: of all of them (01: c(u_x, u_y))
@@ -50,7 +50,7 @@ constantTerm d a i k = cond (eqb (suc i) (monomialCount d)) (a k) 0
 unfoldable pub sumOf : Polynomial → Polynomial → Polynomial
 sumOf f g i = add (f i) (g i)
 
--- 1 where the product of the first two monomials is the third, otherwise 0
+-- 1 where the product of two monomials is a third, otherwise 0
 unfoldable pub sameMonomial : Monomial → Monomial → Monomial → ℕ
 sameMonomial a b c = cond (eqb (a .x + b .x) (c .x) && eqb (a .y + b .y) (c .y)) 1 0
 

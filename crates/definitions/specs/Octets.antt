@@ -4,7 +4,7 @@
 --   octetsOf         a number as so many octets, least significant first
 --   coefficientAt    the coefficient at a place: its qlen octets as a number
 --   decoded          so many coefficients from octets; encoded: the octets of coefficients
---   coefficientsFit  whether each of so many coefficients is below q
+--   coefficientsFit  whether each coefficient of a list is below q
 --   bitAt            bit m of numbers of w bits each, end to end; bit 0 is the lowest of the first
 --   regrouped        the same bits as so many numbers of v bits
 --   unpacked, packed a small element from octets and back: coefficient i takes b bits, starting at bit i × b
@@ -26,13 +26,13 @@ octetsOf zero x = []
 octetsOf (suc len) x = x % 256 ∷ octetsOf len (x / 256)
 
 unfoldable pub coefficientAt : ℕ → List ℕ → ℕ → ℕ
-coefficientAt qlen octets m = numberOf (take qlen (drop (m * qlen) octets))
+coefficientAt len octets m = numberOf (take len (drop (m * len) octets))
 
 unfoldable pub decoded : ℕ → ℕ → List ℕ → List ℕ
-decoded qlen count octets = tabulate count (coefficientAt qlen octets)
+decoded len count octets = tabulate count (coefficientAt len octets)
 
 unfoldable pub encoded : ℕ → List ℕ → List ℕ
-encoded qlen coefficients = joined (map (octetsOf qlen) coefficients)
+encoded len coefficients = joined (map (octetsOf len) coefficients)
 
 unfoldable pub coefficientsFit : ℕ → List ℕ → Bool
 coefficientsFit q coefficients = every (length coefficients) (λ m. ltb (getD coefficients m 0) q)
@@ -47,7 +47,7 @@ unfoldable pub unpacked : ℕ → ℕ → List ℕ → List ℕ
 unpacked b n octets = regrouped 8 b n octets
 
 unfoldable pub packed : ℕ → ℕ → List ℕ → List ℕ
-packed b octets coefficients = regrouped b 8 octets coefficients
+packed b len coefficients = regrouped b 8 len coefficients
 
 unfoldable pub paddingClear : ℕ → List ℕ → Bool
 paddingClear used octets = every (8 * length octets) (λ m. ltb m used || eqb (bitAt 8 octets m) 0)

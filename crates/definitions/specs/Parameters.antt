@@ -5,14 +5,16 @@
 --   smallBits        b: 1, 2, 3, 4 for ℓ 2, 4, 8, 16
 --   termSum          S, the sum over k from 0 to D of (k + 1) × n^k × (ℓ - 1)^(k + 1)
 --   bound            B = ℓ - 1 + ℓ × S (01: the bound)
---   headroom         the largest whole number s with s × B < q: proofs/Headroom.antt shows that (q - 1) / B is it
+--   headroom         the largest whole number s with s × B < q: proofs/Parameters.antt shows that (q - 1) / B is it
+--   rangeFits, ringFits, degreeFits, modulusFits, messageFits    that tests 1, 2, 3, 4, 5 do not apply
 --   setTests         tests 1 to 5, in order
 --   bitLength        32 minus the leading zeros of q
 --   qlen             the octets of a coefficient: the bit length of q divided by 8, rounded up
---   monomialCount    (d + 1)(d + 2)/2
+--   monomialCount    (d + 1)(d + 2)/2, the number of monomials of total degree at most d
+--   elementsLength   the octets of so many ring elements
 --   smallLength      ⌈n × b / 8⌉;  secretLength, publicLength, ciphertextLength, messageLength: the octets of each
 --   workLength       8 × n words of 32 bits
---   limitsAnswer     the bound and the headroom of an accepted set, or the refusal
+--   limitsAnswer     the bound and the headroom of an accepted set, or the refusal;  lengthsAnswer: the lengths
 -- Assumes nothing.
 use Prim.Native.Nat.{ℕ, suc, _+_, _-_, _*_, _/_, _%_, _^_}
 use mathlib.Core.Bool.{Bool, cond, _&&_, _||_, not}
@@ -20,7 +22,7 @@ use mathlib.Core.List.{List, [], _∷_}
 use lib.Dec.{eqb, leb, ltb}
 use lib.Count.{leadingZeros}
 use Rattle.definitions.specs.Sequences.{sum}
-use Rattle.definitions.specs.Refusals.{Test, refuse, Answer, answer}
+use Rattle.definitions.specs.Refusals.{Test, refuse, Answer, answer, number, output}
 
 pub record Parameters : Type 0 where
   pub l : ℕ
@@ -108,3 +110,37 @@ pub record Limits : Type 0 where
 
 unfoldable pub limitsAnswer : Parameters → Answer Limits
 limitsAnswer p = answer (setTests p) [] (record { bound = bound p; headroom = headroom p })
+
+pub record Lengths : Type 0 where
+  pub secret : ℕ
+  pub public : ℕ
+  pub message : ℕ
+  pub ciphertext : ℕ
+  pub work : ℕ
+
+unfoldable pub lengthsAnswer : Parameters → Answer Lengths
+lengthsAnswer p =
+    answer (setTests p) []
+    (record {
+      secret = secretLength p;
+      public = publicLength p;
+      message = messageLength p;
+      ciphertext = ciphertextLength p;
+      work = workLength p;
+    })
+
+-- ---- what the caller has at exit: the number and every output
+
+pub record LimitsExit : Type 0 where
+  pub refusal : ℕ
+  pub limits : Limits
+
+unfoldable pub limitsExit : Parameters → Limits → LimitsExit
+limitsExit p old = record { refusal = number (limitsAnswer p); limits = output (λ l. l) (limitsAnswer p) old }
+
+pub record LengthsExit : Type 0 where
+  pub refusal : ℕ
+  pub lengths : Lengths
+
+unfoldable pub lengthsExit : Parameters → Lengths → LengthsExit
+lengthsExit p old = record { refusal = number (lengthsAnswer p); lengths = output (λ l. l) (lengthsAnswer p) old }

@@ -1,6 +1,6 @@
 -- 01, "Ring, monomials, octets", first paragraph: R_q and R_ℓ.
 --
---   Element          a polynomial in t below degree n: the coefficient of t^k stands at k
+--   Element          a polynomial in t below degree n: the coefficient of t^k stands at k; what stands at n and above is never read
 --   elementOf        the element whose coefficients are a list's
 --   modulo           each coefficient modulo q: an element of R_q is one that this leaves as it is
 --   add, scale       the sum of two elements; an element times a number

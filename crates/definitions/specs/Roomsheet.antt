@@ -12,7 +12,7 @@
 --   roomsheet        the text printed for a text
 -- Assumes nothing.
 use Prim.Native.Nat.{ℕ, suc, _+_, _-_, _*_, _/_, _%_, _^_}
-use mathlib.Core.Bool.{Bool, true, false, cond, _&&_, _||_}
+use mathlib.Core.Bool.{Bool, cond, _&&_, _||_}
 use mathlib.Core.List.{List, [], _∷_, _++_, map}
 use lib.Dec.{eqb, leb}
 use lib.ListN.{length, getD}
@@ -23,7 +23,7 @@ use Rattle.definitions.specs.Parameters.{Parameters, Limits, limitsAnswe
 abbrev pub Text : Type 0
 Text = List ℕ
 
--- an octet at the front of the first of some parts
+-- an octet at the front of the first of some parts; where there is none, it begins one: so a last line without newline counts
 unfoldable pub inFront : ℕ → List Text → List Text
 inFront c [] = (c ∷ []) ∷ []
 inFront c (part ∷ parts) = (c ∷ part) ∷ parts

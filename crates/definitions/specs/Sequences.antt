@@ -8,7 +8,7 @@
 --   sameNumber       1 where two numbers are equal, otherwise 0
 -- Assumes nothing.
 use Prim.Native.Nat.{ℕ, zero, suc, _+_}
-use mathlib.Core.Bool.{Bool, true, false, cond, _&&_}
+use mathlib.Core.Bool.{Bool, true, cond, _&&_}
 use mathlib.Core.List.{List, [], _∷_, _++_}
 use lib.Dec.{eqb}
 
@@ -21,7 +21,6 @@ every zero f = true
 every (suc n) f = every n f && f n
 
 unfoldable pub howMany : ℕ → (ℕ → Bool) → ℕ
-unfolding sum
 howMany n f = sum n (λ k. cond (f k) 1 0)
 
 unfoldable pub tabulate : {A : Type 0} → ℕ → (ℕ → A) → List A

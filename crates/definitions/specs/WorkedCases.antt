@@ -2,17 +2,17 @@
 --
 --   setA             ℓ 4, q 1459, n 2, dX 1, dr 1, mlen 4
 --   Row              what the definitions give, beside what 01 says
---   told..           an answer as a list: its number, then, where it is 0, the octets used, if it reports them, and the outputs
+--   told..           an answer as a list: its number, then, where it is 0, the octets used, if it reports them, and the outputs; of keys the
+--                    length of the secret before both
 -- Assumes nothing.
 use Prim.Native.Nat.{ℕ}
-use mathlib.Core.Bool.{Bool, cond}
 use mathlib.Core.List.{List, [], _∷_, _++_}
-use lib.ListN.{take, replicate}
+use lib.ListN.{length, take, replicate}
 use Rattle.definitions.specs.Sequences.{tabulate, joined}
 use Rattle.definitions.specs.Refusals.{Answer, untouched, refused, accepted}
 use Rattle.definitions.specs.Parameters.{Parameters, degree}
-use Rattle.definitions.specs.Ring.{Element, elementOf, modulo, conv}
-use Rattle.definitions.specs.Calls.{KeyPair, Encrypted, polynomialFrom, secretX, secretY, decryptedValue, decryptedFrom, keygenAnswer, isZeroAnswer, encryptAnswer, decryptAnswer}
+use Rattle.definitions.specs.Ring.{elementOf, modulo, conv}
+use Rattle.definitions.specs.Calls.{KeyPair, Encrypted, polynomialFrom, secretX, secretY, decryptedValue, decryptedFrom, keygenAnswer, encryptAnswer, decryptAnswer}
 
 abbrev pub setAWith : ℕ → Parameters
 setAWith mlen = record { l = 4; q = 1459; n = 2; dx = 1; dr = 1; mlen = mlen }
@@ -50,7 +50,7 @@ ciphertextA =
 abbrev pub toldKeys : Answer KeyPair → List ℕ
 toldKeys (untouched k) = k ∷ []
 toldKeys (refused k) = k ∷ []
-toldKeys (accepted keys) = 0 ∷ keys .used ∷ (keys .secret ++ keys .public)
+toldKeys (accepted keys) = 0 ∷ keys .used ∷ length (keys .secret) ∷ (keys .secret ++ keys .public)
 
 abbrev pub toldCiphertext : Answer Encrypted → List ℕ
 toldCiphertext (untouched k) = k ∷ []
@@ -79,9 +79,9 @@ decryptA p secret ciphertext = toldMessage (decryptAnswer p secret ciphertext 1 
 
 -- w, at both places
 valueA : List ℕ → List ℕ → List ℕ
-valueA secret ciphertext = tabulate 2 (decryptedValue setA (polynomialFrom setA 2 ciphertext) (secretX setA secret) (secretY setA secret))
+valueA secret ciphertext = tabulate 2 (decryptedValue setA (polynomialFrom setA (degree setA) ciphertext) (secretX setA secret) (secretY setA secret))
 
--- case 8: 15 at every coefficient, which is 3 + 4 × 3 at the constant and 4 × 3 elsewhere
+-- case 8: 4 × 3 at every coefficient, and 3 more at the constant's
 zeroKey : List ℕ
 zeroKey = replicate 12 0
 
@@ -109,7 +109,7 @@ cases =
     -- 1: (1 + 2t) × (5 + 7t)
     row (tabulate 2 (modulo 1459 (conv 2 (elementOf (1 ∷ 2 ∷ [])) (elementOf (5 ∷ 7 ∷ []))))) (19 ∷ 17 ∷ [])
     -- 2
-    ∷ row (keygenA keyRandom) (0 ∷ 10 ∷ (secretA ++ keyA))
+    ∷ row (keygenA keyRandom) (0 ∷ 10 ∷ 2 ∷ (secretA ++ keyA))
     -- 3
     ∷ row (encryptA keyA (0x0E ∷ []) (0x01 ∷ 0x00 ∷ (afterPair ++ (0x09 ∷ [])))) (0 ∷ 18 ∷ ciphertextA)
     -- 4: w, the message, and refusal 10 with mlen 2

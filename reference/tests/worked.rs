@@ -1,0 +1,283 @@
+//! The worked list of document 01, cases 1 to 11.
+
+use reference::octets;
+use reference::ring::{self, Polynomial};
+use reference::scheme::{read_polynomial, read_secret_key};
+use reference::set::bound;
+use reference::*;
+
+const A: Set = Set {
+    l: 4,
+    q: 1459,
+    n: 2,
+    dx: 1,
+    dr: 1,
+    mlen: 4,
+};
+
+fn hex(text: &str) -> Vec<u8> {
+    text.split_whitespace()
+        .map(|pair| u8::from_str_radix(pair, 16).expect("hexadecimal"))
+        .collect()
+}
+
+fn key_random() -> Vec<u8> {
+    hex("09 04 05 00 07 00 64 00 01 00")
+}
+
+fn secret_key() -> Vec<u8> {
+    hex("09 04")
+}
+
+fn public_key() -> Vec<u8> {
+    hex("05 00 07 00 64 00 01 00 9F 05 3E 05")
+}
+
+fn encrypt_random() -> Vec<u8> {
+    hex("01 00 00 00 00 00 00 00 00 00 01 00 01 00 08 0F 00 09")
+}
+
+fn ciphertext() -> Vec<u8> {
+    hex("09 00 07 00 64 00 01 00 00 00 08 00 B2 05 4F 05 01 00 64 00 44 05 AA 05")
+}
+
+/// Encrypts into a marked buffer: the number, the ciphertext, the work words and the count used.
+fn try_encrypt(
+    set: Set,
+    public_key: &[u8],
+    message: &[u8],
+    random: &[u8],
+) -> (u32, Vec<u8>, Vec<u32>, u64) {
+    let mut c = vec![0xAA; 24];
+    let mut work = vec![7; 16];
+    let mut used = 99;
+    let number = encrypt(
+        set, public_key, message, random, &mut c, &mut work, &mut used,
+    );
+    (number, c, work, used)
+}
+
+#[test]
+fn case_1() {
+    assert_eq!(ring::product(A.q, &[1, 2], &[5, 7]), [19, 17]);
+}
+
+#[test]
+fn case_2() {
+    let (mut sk, mut pk, mut work, mut used) = ([0xAA; 2], [0xAA; 12], [7; 16], 99);
+    let number = keygen(A, &key_random(), &mut sk, &mut pk, &mut work, &mut used);
+    assert_eq!(number, 0);
+    assert_eq!(sk[..], secret_key());
+    assert_eq!(pk[..], public_key());
+    assert_eq!(work, [0; 16]);
+    assert_eq!(used, 10);
+
+    let mut zero = 99;
+    let mut work = [7; 16];
+    assert_eq!(is_zero(A, &sk, &pk, &mut work, &mut zero), 0);
+    assert_eq!((zero, work), (1, [0; 16]));
+    assert_eq!(is_zero(A, &[0x08, 0x04], &pk, &mut work, &mut zero), 0);
+    assert_eq!(zero, 0);
+}
+
+#[test]
+fn case_3() {
+    let got = try_encrypt(A, &public_key(), &[0x0E], &encrypt_random());
+    assert_eq!(got, (0, ciphertext(), vec![0; 16], 18));
+    // Octets after the last draw aren't examined.
+    let longer = [encrypt_random(), vec![0xFF; 5]].concat();
+    let got = try_encrypt(A, &public_key(), &[0x0E], &longer);
+    assert_eq!(got, (0, ciphertext(), vec![0; 16], 18));
+}
+
+#[test]
+fn case_4() {
+    let (u_x, u_y) = read_secret_key(A, &secret_key()).expect("no padding");
+    let c = read_polynomial(A, A.d(), &ciphertext()).expect("below q");
+    assert_eq!(ring::value(A.q, &c, &u_x, &u_y), [62, 71]);
+
+    let (mut message, mut work) = ([0xAA], [7; 16]);
+    let number = decrypt(A, &secret_key(), &ciphertext(), &mut message, &mut work);
+    assert_eq!((number, message, work), (0, [0x0E], [0; 16]));
+
+    let short = Set { mlen: 2, ..A };
+    let (mut message, mut work) = ([0xAA], [7; 16]);
+    let number = decrypt(short, &secret_key(), &ciphertext(), &mut message, &mut work);
+    assert_eq!((number, message, work), (10, [0xAA], [0; 16]));
+}
+
+#[test]
+fn case_5() {
+    let mut random = encrypt_random();
+    random[1] = 0x08;
+    let got = try_encrypt(A, &public_key(), &[0x0E], &random);
+    assert_eq!(got, (0, ciphertext(), vec![0; 16], 18));
+
+    let random = [hex("B3 05"), encrypt_random()].concat();
+    let got = try_encrypt(A, &public_key(), &[0x0E], &random);
+    assert_eq!(got, (0, ciphertext(), vec![0; 16], 20));
+}
+
+#[test]
+fn case_6() {
+    let random = encrypt_random();
+    let got = try_encrypt(A, &public_key(), &[0x0E], &random[..17]);
+    assert_eq!(got, (9, vec![0xAA; 24], vec![0; 16], 99));
+
+    let (mut sk, mut pk, mut work, mut used) = ([0xAA; 2], [0xBB; 12], [7; 16], 99);
+    let random = &key_random()[..9];
+    let number = keygen(A, random, &mut sk, &mut pk, &mut work, &mut used);
+    assert_eq!(number, 9);
+    assert_eq!((sk, pk, work, used), ([0xAA; 2], [0xBB; 12], [0; 16], 99));
+}
+
+#[test]
+fn case_7() {
+    for (coefficient, wanted) in [(1458u16, 0), (1459, 8)] {
+        for place in 0..6 {
+            let mut key = public_key();
+            key[2 * place..2 * place + 2].copy_from_slice(&coefficient.to_le_bytes());
+            let (number, c, work, used) = try_encrypt(A, &key, &[0x0E], &encrypt_random());
+            assert_eq!((number, work), (wanted, vec![0; 16]));
+            if wanted == 8 {
+                assert_eq!((c, used), (vec![0xAA; 24], 99));
+            }
+
+            let (mut work, mut zero) = ([7; 16], 99);
+            let number = is_zero(A, &secret_key(), &key, &mut work, &mut zero);
+            assert_eq!((number, work), (wanted, [0; 16]));
+            assert_eq!(zero == 99, wanted == 8);
+
+            let mut words = [77; 6];
+            assert_eq!(public_key_from_octets(A, &key, &mut words), wanted);
+            if wanted == 0 {
+                assert_eq!(words[place], 1458);
+            } else {
+                assert_eq!(words, [77; 6]);
+            }
+        }
+    }
+
+    let got = try_encrypt(A, &public_key(), &[0x1E], &encrypt_random());
+    assert_eq!(got, (7, vec![0xAA; 24], vec![0; 16], 99));
+}
+
+#[test]
+fn case_8() {
+    let random = [vec![0; 12], vec![0x0F; 6]].concat();
+    let (number, c, _, used) = try_encrypt(A, &[0; 12], &[0x0F], &random);
+    assert_eq!((number, used), (0, 18));
+
+    let mut zero = 99;
+    let number = is_zero(A, &[0x0F, 0x0F], &[0; 12], &mut [7; 16], &mut zero);
+    assert_eq!((number, zero), (0, 1));
+
+    let w = {
+        let c = read_polynomial(A, A.d(), &c).expect("below q");
+        ring::value(A.q, &c, &[3, 3], &[3, 3])
+    };
+    assert_eq!(w, [1455, 1455]);
+    let mut message = [0xAA];
+    let number = decrypt(A, &[0x0F, 0x0F], &c, &mut message, &mut [7; 16]);
+    assert_eq!((number, message), (0, [0x0F]));
+
+    // Modulo 1455 it would decrypt as 0, so 1455 as q is refused.
+    let c = Polynomial {
+        degree: 2,
+        elements: [vec![vec![12, 12]; 5], vec![vec![15, 15]]].concat(),
+    };
+    let w = ring::value(1455, &c, &[3, 3], &[3, 3]);
+    assert_eq!(w, [0, 0]);
+    assert_eq!(check(Set { q: 1455, ..A }), 4);
+}
+
+#[test]
+fn case_9() {
+    let empty = Set { mlen: 0, ..A };
+    let (number, c, _, used) = try_encrypt(empty, &public_key(), &[], &encrypt_random());
+    assert_eq!((number, used), (0, 18));
+    let mut work = [7; 16];
+    let number = decrypt(empty, &secret_key(), &c, &mut [], &mut work);
+    assert_eq!((number, work), (0, [0; 16]));
+
+    assert_eq!(check(Set { mlen: 3, ..A }), 5);
+}
+
+#[test]
+fn case_10() {
+    let set = Set {
+        l: 2,
+        q: 100_679_684,
+        n: 4096,
+        dx: 1,
+        dr: 1,
+        mlen: 0,
+    };
+    assert_eq!(check(set), 0);
+    assert_eq!(
+        check(Set {
+            q: set.q - 1,
+            ..set
+        }),
+        4
+    );
+
+    let set = Set {
+        l: 16,
+        q: 2_147_483_647,
+        n: 4096,
+        dx: 2,
+        dr: 2,
+        mlen: 0,
+    };
+    assert_eq!(check(set), 4);
+    // The bound passes 64 bits and is still exact.
+    let top = 5 * (1u128 << 48) * 759_375;
+    let lower = 4 * (1u128 << 36) * 50_625 + 3 * (1 << 24) * 3375 + 2 * 4096 * 225 + 15;
+    assert_eq!(bound(16, 4096, 4), 15 + 16 * (top + lower));
+    assert!(bound(16, 4096, 4) > u128::from(u64::MAX));
+}
+
+#[test]
+fn case_11() {
+    let set = Set {
+        l: 4,
+        q: 467_424_411,
+        n: 1201,
+        dx: 1,
+        dr: 1,
+        mlen: 2402,
+    };
+    assert_eq!(check(set), 4);
+    assert_eq!(bound(4, 1201, 2), 467_424_411);
+    assert_eq!(set.q % 3, 0);
+    assert_eq!(
+        check(Set {
+            q: set.q + 1,
+            ..set
+        }),
+        0
+    );
+}
+
+#[test]
+fn conversions_of_the_worked_octets() {
+    let mut words = [0; 6];
+    assert_eq!(public_key_from_octets(A, &public_key(), &mut words), 0);
+    assert_eq!(words, [5, 7, 100, 1, 1439, 1342]);
+    let mut back = [0; 12];
+    assert_eq!(public_key_to_octets(A, &words, &mut back), 0);
+    assert_eq!(back[..], public_key());
+
+    let mut words = [0; 12];
+    assert_eq!(ciphertext_from_octets(A, &ciphertext(), &mut words), 0);
+    let mut back = [0; 24];
+    assert_eq!(ciphertext_to_octets(A, &words, &mut back), 0);
+    assert_eq!(back[..], ciphertext());
+
+    // 09 is 1 + 2t.
+    let mut words = [0; 2];
+    assert_eq!(small_from_octets(A, &[0x09], &mut words), 0);
+    assert_eq!(words, [1, 2]);
+    assert_eq!(octets::pack(2, &words, 1), [0x09]);
+}
