@@ -3,9 +3,8 @@
 use parameters::lengths;
 ghost use mathlib.Core.Path.{_≡_};
 ghost use Prim.Native.Nat.{_+_, _-_, _≤_, _<_, _^_};
-ghost use lib.ListN.{length, take, drop};
+ghost use lib.ListN.{length, drop};
 ghost use Rattle.definitions.specs.Parameters.{bitLength};
-ghost use Rattle.definitions.specs.Octets.{numberOf};
 ghost use Rattle.definitions.specs.Draws.{candidates, draws};
 ghost use Rattle.draws.specs.Runs.{said, drawnAnswer};
 
@@ -13,39 +12,6 @@ ghost use Rattle.draws.specs.Runs.{said, drawnAnswer};
 pub enum Run {
     Complete(usize),
     Exhausted,
-}
-
-// One octet as a number.
-fn octet(random: &[u8], at: usize) -> u32
-    requires { ⌜ at < length (now random) ⌝ }
-    ensures { λ r. ⌜ (r ≡ numberOf (take 1 (drop at (now (random .entry))))) × (r < 256) ⌝ }
-{
-    random[at] as u32
-}
-
-// Two octets as a number, least significant first.
-fn pair(random: &[u8], at: usize) -> u32
-    requires { ⌜ at + 2 ≤ length (now random) ⌝ }
-    ensures { λ r. ⌜ (r ≡ numberOf (take 2 (drop at (now (random .entry))))) × (r < 65536) ⌝ }
-{
-    octet(random, at) + 256 * octet(random, at + 1)
-}
-
-// A group of one to four octets as a number, least significant first.
-fn group(random: &[u8], at: usize, width: usize) -> u32
-    requires { ⌜ (0 < width) × (width ≤ 4) × (at + width ≤ length (now random)) ⌝ }
-    ensures { λ r. ⌜ r ≡ numberOf (take width (drop at (now (random .entry)))) ⌝ }
-{
-    if width == 4 {
-        return pair(random, at) + 65536 * pair(random, at + 2);
-    }
-    if width == 3 {
-        return pair(random, at) + 65536 * octet(random, at + 2);
-    }
-    if width == 2 {
-        return pair(random, at);
-    }
-    octet(random, at)
 }
 
 // As many ones as q has bits: a number and this is the number modulo 2 to the bit length of q.
@@ -71,7 +37,7 @@ pub fn draw_below(random: &[u8], start: usize, q: u32, words: &mut [u32]) -> Run
             if random.len() - at < width {
                 break 'coefficients;
             }
-            let x = group(random, at, width) & mask;
+            let x = octets::number(random, at, width) & mask;
             at += width;
             groups += 1;
             if x < q {

@@ -22,7 +22,7 @@ fn wide(octet: u8) -> u32
 }
 
 // The number of qlen octets.
-fn number(octets: &[u8], at: usize, qlen: usize) -> u32
+pub fn number(octets: &[u8], at: usize, qlen: usize) -> u32
     requires { ⌜ (1 ≤ qlen) × (qlen ≤ 4) × (at + qlen ≤ length (now octets)) ⌝ }
     ensures { λ r. ⌜ r ≡ numberOf (take qlen (drop at (now (octets .entry)))) ⌝ }
 {

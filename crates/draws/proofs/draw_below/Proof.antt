@@ -40,8 +40,8 @@ loop-holds c = c .before .coefficients .inv .2
 sub-loop : tie.Need-sub-loop Inv-loop μ-loop Inv-coefficients μ-coefficients
 sub-loop c = omega arith
 
-group-requires : tie.Need-group-requires Inv-loop μ-loop Inv-coefficients μ-coefficients
-group-requires c κs = omega arith
+number-requires : tie.Need-number-requires Inv-loop μ-loop Inv-coefficients μ-coefficients
+number-requires c κs = omega arith
 
 add-at : tie.Need-add-at Inv-loop μ-loop Inv-coefficients μ-coefficients
 add-at c = omega arith
@@ -57,7 +57,7 @@ loop-again c =
     let turn = c .before .before .before in
     let called = turn .before .before .before in
     let width = called .before .octets-of-coefficient .ensures in
-    let x = going-group (turn .loop .inv) width (called .group-mask .ensures) (c .before .group .ensures) in
+    let x = going-group (turn .loop .inv) width (called .group-mask .ensures) (c .before .number .ensures) in
     going-dropped (turn .loop .inv) width (omega arith) (omega arith) (omega arith)
 
 mul-words : tie.Need-mul-words Inv-loop μ-loop Inv-coefficients μ-coefficients
@@ -77,7 +77,7 @@ coefficients-again c =
     let turn = c .before .before .before in
     let called = turn .before .before .before in
     let width = called .before .octets-of-coefficient .ensures in
-    let x = going-group (turn .loop .inv) width (called .group-mask .ensures) (c .before .group .ensures) in
+    let x = going-group (turn .loop .inv) width (called .group-mask .ensures) (c .before .number .ensures) in
     (simp length-set (omega arith), simp length-set (omega arith), going-kept (turn .loop .inv) width x (c .if1 .taken) (omega arith) (omega arith))
 
 same-length : tie.Need-same-length Inv-loop μ-loop Inv-coefficients μ-coefficients
@@ -115,7 +115,7 @@ draw-below-spec =
     coefficients-holds
     loop-holds
     sub-loop
-    group-requires
+    number-requires
     add-at
     add-groups
     loop-less
