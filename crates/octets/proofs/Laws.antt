@@ -79,11 +79,13 @@ stored-next at k x l r h e =
     ∙ rw (octetsOf-snoc k x, add-suc at k) (simp append-assoc))
 
 module _ (at x : ℕ) (l : List ℕ) where
-  pub stored-one : at + 1 ≤ length l → set l at (x % 256) ≡ stored at 1 x l
+  pub stored-none : l ≡ stored at 0 x l
   unfolding octetsOf
+  stored-none = rw (add-zero at) (sym (take-append-drop at l))
+
+  pub stored-one : at + 1 ≤ length l → set l at (x % 256) ≡ stored at 1 x l
   stored-one h =
-      let none : l ≡ stored at 0 x l = rw (add-zero at) (sym (take-append-drop at l)) in
-      let e : set l (at + 0) (x / 1 % 256) ≡ stored at 1 x l = stored-next at 0 x l l h none in
+      let e : set l (at + 0) (x / 1 % 256) ≡ stored at 1 x l = stored-next at 0 x l l h stored-none in
       rw (add-zero at, div-one x) at e
 
   pub stored-two : at + 2 ≤ length l → set (set l at (x % 256)) (at + 1) (x / 256 % 256) ≡ stored at 2 x l

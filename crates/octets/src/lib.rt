@@ -21,21 +21,24 @@ fn wide(octet: u8) -> u32
     octet as u32
 }
 
-// The number of qlen octets.
-pub fn number(octets: &[u8], at: usize, qlen: usize) -> u32
-    requires { ⌜ (1 ≤ qlen) × (qlen ≤ 4) × (at + qlen ≤ length (now octets)) ⌝ }
-    ensures { λ r. ⌜ r ≡ numberOf (take qlen (drop at (now (octets .entry)))) ⌝ }
+// The number of up to four octets, from a place on.
+pub fn number(octets: &[u8], at: usize, len: usize) -> u32
+    requires { ⌜ (len ≤ 4) × (at + len ≤ length (now octets)) ⌝ }
+    ensures { λ r. ⌜ r ≡ numberOf (take len (drop at (now (octets .entry)))) ⌝ }
 {
+    if len == 0 {
+        return 0;
+    }
     let one = wide(octets[at]);
-    if qlen == 1 {
+    if len == 1 {
         return one;
     }
     let two = one + wide(octets[at + 1]) * 256;
-    if qlen == 2 {
+    if len == 2 {
         return two;
     }
     let three = two + wide(octets[at + 2]) * 65536;
-    if qlen == 3 {
+    if len == 3 {
         return three;
     }
     three + wide(octets[at + 3]) * 16777216
@@ -144,21 +147,24 @@ pub fn judge_words(words: &[u32], q: u32) -> u32
     refused
 }
 
-// The qlen octets of a number, from a place on.
-fn store(octets: &mut [u8], at: usize, qlen: usize, x: u32)
-    requires { ⌜ (1 ≤ qlen) × (qlen ≤ 4) × (at + qlen ≤ length (now octets)) ⌝ }
-    ensures { λ _. ⌜ now (octets .exit) ≡ take at (now (octets .entry)) ++ (octetsOf qlen x ++ drop (at + qlen) (now (octets .entry))) ⌝ }
+// Up to four octets of a number, from a place on.
+pub fn store(octets: &mut [u8], at: usize, len: usize, x: u32)
+    requires { ⌜ (len ≤ 4) × (at + len ≤ length (now octets)) ⌝ }
+    ensures { λ _. ⌜ now (octets .exit) ≡ take at (now (octets .entry)) ++ (octetsOf len x ++ drop (at + len) (now (octets .entry))) ⌝ }
 {
+    if len == 0 {
+        return;
+    }
     octets[at] = (x % 256) as u8;
-    if qlen == 1 {
+    if len == 1 {
         return;
     }
     octets[at + 1] = (x / 256 % 256) as u8;
-    if qlen == 2 {
+    if len == 2 {
         return;
     }
     octets[at + 2] = (x / 65536 % 256) as u8;
-    if qlen == 3 {
+    if len == 3 {
         return;
     }
     octets[at + 3] = (x / 16777216 % 256) as u8;

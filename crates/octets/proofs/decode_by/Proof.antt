@@ -39,7 +39,7 @@ mul-number c =
 number-requires : tie.Need-number-requires Inv-loop μ-loop
 number-requires c κs =
     let s = c .before .before .before .before in
-    (omega arith, omega arith, place-end (c .before .loop .m) (s .args .qlen) (in-words c) (exact c))
+    (omega arith, place-end (c .before .loop .m) (s .args .qlen) (in-words c) (exact c))
 
 mul-words : tie.Need-mul-words Inv-loop μ-loop
 mul-words c = omega arith

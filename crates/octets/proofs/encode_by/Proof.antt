@@ -41,7 +41,7 @@ shared-slice-read-store c = omega arith
 store-requires : tie.Need-store-requires Inv-loop μ-loop
 store-requires c κs =
     let s = c .before .before .before .before .before .before in
-    (omega arith, omega arith, place-end (c .before .before .before .loop .m) (s .args .qlen) (c .before .before .loop-test .taken) (exact (c .before)))
+    (omega arith, place-end (c .before .before .before .loop .m) (s .args .qlen) (c .before .before .loop-test .taken) (exact (c .before)))
 
 add-m : tie.Need-add-m Inv-loop μ-loop
 add-m c = omega arith
