@@ -1,80 +1,26 @@
 -- A run of draws under way is right when the whole run is what it has kept and taken, followed by the run of what is left: a group
 -- of q or more moves one group on, a kept one a word too, and the run ends where no word or no group is left.
 --
---   drawsAt          so many draws from the octets at a place on
 --   onward           what is kept and how many groups are taken, then the rest of the run
 --   Going            a run from start that has filled i words and stands at a place of the octets
 -- Assumes nothing.
-use Prim.Native.Nat.{ℕ, suc, _+_, _-_, _*_, _/_, _%_, _^_, _≤_, _<_, zero-le}
-use native.Mathlib.Nat.{add-zero, zero-add, sub-zero, div-eq-of-lt, div-eq-sub-div, mul-div-le, mul-le-mul-left}
+use Prim.Native.Nat.{ℕ, suc, _+_, _-_, _^_, _≤_, _<_, zero-le}
+use native.Mathlib.Nat.{add-zero, zero-add, sub-zero}
 use native.Mathlib.Numerals.{add-one}
 use native.Mathlib.Omega.{arith}
 use mathlib.Core.Path.{_≡_, refl, _∙_, ap}
 use mathlib.Core.Bool.{Bool, true, false, not}
 use mathlib.Core.List.{List, [], _∷_, _++_, append-assoc, append-nil}
-use lib.ListN.{length, take, drop, set, length-drop, length-set}
-use lib.Seq.{drop-drop, take-suc-set, take-all}
+use lib.ListN.{length, take, drop, set, length-set}
+use lib.Seq.{take-suc-set, take-all}
 use lib.Bits.{bitAnd, and-mask}
-use Rattle.definitions.specs.Sequences.{tabulate}
 use Rattle.definitions.specs.Refusals.{firstRefusal, refuse, refused, accepted, answer}
 use Rattle.definitions.specs.Parameters.{bitLength, qlen}
 use Rattle.definitions.specs.Octets.{numberOf}
-use Rattle.definitions.specs.Draws.{Drawn, kept, dropped, candidates, draws}
-use Rattle.definitions.proofs.Sums.{tabulate-cong}
-use Rattle.definitions.proofs.Octets.{coefficientAt-zero, coefficientAt-suc}
-use Rattle.definitions.proofs.Draws.{draws-kept, draws-dropped, draws-groups-le, length-candidates}
+use Rattle.definitions.specs.Draws.{Drawn, kept, dropped, draws}
 use Rattle.definitions.proofs.Parameters.{qlen-least, qlen-most}
+use Rattle.draws.proofs.Groups.{groupAt, drawsAt, drawsAt-kept, drawsAt-dropped, drawsAt-ended}
 use Rattle.draws.specs.Runs.{drawnAnswer}
-
--- ---- groups
-
-pub candidates-none : (q : ℕ) (random : List ℕ) → length random < qlen q → candidates q random ≡ []
-unfolding candidates tabulate
-candidates-none q random h = rw (div-eq-of-lt h)
-
-pub candidates-cons : (q : ℕ) (random : List ℕ) → 0 < qlen q → qlen q ≤ length random
-    → candidates q random ≡ numberOf (take (qlen q) random) % 2 ^ bitLength q ∷ candidates q (drop (qlen q) random)
-unfolding candidates tabulate
-candidates-cons q random pos fits =
-    rw (div-eq-sub-div pos fits, add-one, coefficientAt-zero, length-drop)
-    (ap (λ (l : List ℕ). numberOf (take (qlen q) random) % 2 ^ bitLength q ∷ l)
-    (tabulate-cong ((length random - qlen q) / qlen q) (λ k h. rw (coefficientAt-suc (qlen q) random k))))
-
--- the group at a place, reduced
-abbrev pub groupAt : ℕ → List ℕ → ℕ → ℕ
-groupAt q random at = numberOf (take (qlen q) (drop at random)) % 2 ^ bitLength q
-
-abbrev pub drawsAt : ℕ → List ℕ → ℕ → ℕ → Drawn
-drawsAt q random count at = draws q count (candidates q (drop at random))
-
-module _ (q : ℕ) (random : List ℕ) (at : ℕ) where
-  candidates-at : 0 < qlen q → at + qlen q ≤ length random → candidates q (drop at random) ≡ groupAt q random at ∷ candidates q (drop (at + qlen q) random)
-  candidates-at pos fits =
-      let complete : qlen q ≤ length (drop at random) = simp length-drop (omega arith) in
-      candidates-cons q (drop at random) pos complete ∙ rw (drop-drop (qlen q) at random)
-
-  pub drawsAt-kept : (count : ℕ) → 0 < qlen q → at + qlen q ≤ length random → groupAt q random at < q
-      → drawsAt q random (suc count) at ≡ kept (groupAt q random at) (drawsAt q random count (at + qlen q))
-  drawsAt-kept count pos fits below = rw (candidates-at pos fits) (draws-kept q count (groupAt q random at) _ below)
-
-  pub drawsAt-dropped : (count : ℕ) → 0 < qlen q → at + qlen q ≤ length random → q ≤ groupAt q random at
-      → drawsAt q random (suc count) at ≡ dropped (drawsAt q random (suc count) (at + qlen q))
-  drawsAt-dropped count pos fits above = rw (candidates-at pos fits) (draws-dropped q count (groupAt q random at) _ above)
-
-  pub drawsAt-ended : (count : ℕ) → length random - at < qlen q → drawsAt q random (suc count) at .enough ≡ false
-  unfolding draws
-  drawsAt-ended count short =
-      let incomplete : length (drop at random) < qlen q = simp length-drop short in
-      rw (candidates-none q (drop at random) incomplete)
-
-  -- the groups taken are there
-  pub drawsAt-within : (count : ℕ) → at ≤ length random → at + qlen q * drawsAt q random count at .groups ≤ length random
-  drawsAt-within count h =
-      let taken : drawsAt q random count at .groups ≤ length (drop at random) / qlen q =
-      rw length-candidates at (draws-groups-le q count (candidates q (drop at random))) in
-      omega (arith, length-drop at random, mul-le-mul-left (qlen q) taken, mul-div-le (length (drop at random)) (qlen q))
-
--- ---- a run under way
 
 abbrev pub onward : List ℕ → ℕ → Drawn → Drawn
 onward values groups rest = record { values = values ++ rest .values; groups = groups + rest .groups; enough = rest .enough }
