@@ -20,7 +20,9 @@ use Rattle.definitions.specs.Octets.{numberOf}
 use Rattle.definitions.specs.Draws.{Drawn, kept, dropped, draws}
 use Rattle.definitions.proofs.Parameters.{qlen-least, qlen-most}
 use Rattle.draws.proofs.Groups.{groupAt, drawsAt, drawsAt-kept, drawsAt-dropped, drawsAt-ended}
-use Rattle.draws.specs.Runs.{drawnAnswer}
+use Rattle.draws.specs.declared.Run.{Run}
+use Rattle.draws.specs.declared.Run.the-variants.{Complete, Exhausted}
+use Rattle.draws.specs.Runs.{said, drawnAnswer}
 
 abbrev pub onward : List ℕ → ℕ → Drawn → Drawn
 onward values groups rest = record { values = values ++ rest .values; groups = groups + rest .groups; enough = rest .enough }
@@ -117,10 +119,11 @@ unfolding answer firstRefusal
 exhausted-told true d h = cc
 exhausted-told false d h = refl
 
-pub drawnAnswer-complete : (d : Drawn) {e : Drawn} → accepted e ≡ drawnAnswer d → d ≡ e
+pub said-complete : (d : Drawn) (words : List ℕ) {run : Run} {groups : ℕ} → run ≡ Complete groups → said run words ≡ drawnAnswer d
+    → d ≡ record { values = words; groups = groups; enough = true }
 unfolding drawnAnswer
-drawnAnswer-complete d {e} h = complete-told (d .enough) d e h
+said-complete d words {groups = groups} e told = complete-told (d .enough) d (record { values = words; groups = groups; enough = true }) (rw e at told)
 
-pub drawnAnswer-exhausted : (d : Drawn) → refused 9 ≡ drawnAnswer d → d .enough ≡ false
+pub said-exhausted : (d : Drawn) (words : List ℕ) {run : Run} → run ≡ Exhausted → said run words ≡ drawnAnswer d → d .enough ≡ false
 unfolding drawnAnswer
-drawnAnswer-exhausted d h = exhausted-told (d .enough) d h
+said-exhausted d words e told = exhausted-told (d .enough) d (rw e at told)
