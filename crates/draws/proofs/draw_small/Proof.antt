@@ -28,7 +28,7 @@ bits-requires : tie.Need-bits-requires
 bits-requires c κs = search needs
 
 unpack-requires : tie.Need-unpack-requires
-unpack-requires c κs = let b = smallBits-within (c .before .before .before .before .before .before .args .p .l) in omega arith
+unpack-requires c κs = rw (c .before .bits .ensures) (smallBits-within _ .least, smallBits-within _ .most)
 
 same-length : tie.Need-same-length
 same-length c = search needs
