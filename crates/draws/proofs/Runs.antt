@@ -1,0 +1,129 @@
+-- A run of draws under way is right when the whole run is what it has kept and taken, followed by the run of what is left: a group
+-- of q or more moves one group on, a kept one a word too, and the run ends where no word or no group is left.
+--
+--   onward           what is kept and how many groups are taken, then the rest of the run
+--   Going            a run from start that has filled i words and stands at a place of the octets
+-- Assumes nothing.
+use Prim.Native.Nat.{ℕ, suc, _+_, _-_, _^_, _≤_, _<_, zero-le}
+use native.Mathlib.Nat.{add-zero, zero-add, sub-zero}
+use native.Mathlib.Numerals.{add-one}
+use native.Mathlib.Omega.{arith}
+use mathlib.Core.Path.{_≡_, refl, _∙_, ap}
+use mathlib.Core.Bool.{Bool, true, false, not}
+use mathlib.Core.List.{List, [], _∷_, _++_, append-assoc, append-nil}
+use lib.ListN.{length, take, drop, set, length-set}
+use lib.Seq.{take-suc-set, take-all}
+use lib.Bits.{bitAnd, and-mask}
+use Rattle.definitions.specs.Refusals.{firstRefusal, refuse, refused, accepted, answer}
+use Rattle.definitions.specs.Parameters.{bitLength, qlen}
+use Rattle.definitions.specs.Octets.{numberOf}
+use Rattle.definitions.specs.Draws.{Drawn, kept, dropped, draws}
+use Rattle.definitions.proofs.Parameters.{qlen-least, qlen-most}
+use Rattle.draws.proofs.Groups.{groupAt, drawsAt, drawsAt-kept, drawsAt-dropped, drawsAt-ended}
+use Rattle.draws.specs.declared.Run.{Run}
+use Rattle.draws.specs.declared.Run.the-variants.{Complete, Exhausted}
+use Rattle.draws.specs.Runs.{said, drawnAnswer}
+
+abbrev pub onward : List ℕ → ℕ → Drawn → Drawn
+onward values groups rest = record { values = values ++ rest .values; groups = groups + rest .groups; enough = rest .enough }
+
+onward-kept : (values : List ℕ) (groups x : ℕ) (d : Drawn) → onward values groups (kept x d) ≡ onward (values ++ (x ∷ [])) (groups + 1) d
+onward-kept values groups x d =
+    let moved : groups + suc (d .groups) ≡ groups + 1 + d .groups = omega arith in
+    rw (append-assoc, moved)
+
+onward-dropped : (values : List ℕ) (groups : ℕ) (d : Drawn) → onward values groups (dropped d) ≡ onward values (groups + 1) d
+onward-dropped values groups d = let moved : groups + suc (d .groups) ≡ groups + 1 + d .groups = omega arith in rw moved
+
+pub record Going (q : ℕ) (random : List ℕ) (start : ℕ) (words : List ℕ) (i at groups : ℕ) : Type 0 where
+  pub least : 0 < qlen q
+  pub most : qlen q ≤ 4
+  pub within : at ≤ length random
+  pub counted : groups ≤ at
+  pub whole : drawsAt q random (length words) start ≡ onward (take i words) groups (drawsAt q random (length words - i) at)
+
+pub going-start : (q : ℕ) (random : List ℕ) (start : ℕ) (words : List ℕ) → 0 < q → q < 2 ^ 32 → start ≤ length random
+    → Going q random start words 0 start 0
+going-start q random start words pos fits h =
+    record {
+      least = qlen-least q pos fits;
+      most = qlen-most q;
+      within = h;
+      counted = zero-le;
+      whole = rw (sub-zero, zero-add);
+    }
+
+one-less : {i n : ℕ} → i < n → n - i ≡ suc (n - (i + 1))
+one-less h = omega arith
+
+module _ {q : ℕ} {random : List ℕ} {start : ℕ} {words : List ℕ} {i at groups : ℕ} (going : Going q random start words i at groups) where
+  -- what is read there and masked, with as many ones as q has bits
+  pub going-group : {width mask x : ℕ} → width ≡ qlen q → mask ≡ 2 ^ bitLength q - 1 → x ≡ numberOf (take width (drop at random))
+      → bitAnd x mask ≡ groupAt q random at
+  going-group w m e = rw (m, and-mask, e, w)
+
+  pub going-kept : {width x : ℕ} → width ≡ qlen q → x ≡ groupAt q random at → x < q → i < length words → at + width ≤ length random
+      → Going q random start (set words i x) (i + 1) (at + width) (groups + 1)
+  going-kept {width} {x} w e below inside fits =
+      let rest = drawsAt q random (length words - (i + 1)) (at + width) in
+      let filled : take (i + 1) (set words i x) ≡ take i words ++ (x ∷ []) = rw (add-one i) (take-suc-set words i x inside) in
+      let step : drawsAt q random (length words - i) at ≡ kept x rest =
+      rw (one-less inside, e, w) (drawsAt-kept q random at (length words - (i + 1)) (going .least) (rw w at fits) (rw e at below)) in
+      record {
+        least = going .least;
+        most = going .most;
+        within = fits;
+        counted = omega arith;
+        whole = rw (length-set, filled) (rw step at (going .whole) ∙ onward-kept (take i words) groups x rest);
+      }
+
+  pub going-dropped : {width : ℕ} → width ≡ qlen q → q ≤ groupAt q random at → i < length words → at + width ≤ length random
+      → Going q random start words i (at + width) (groups + 1)
+  going-dropped {width} w above inside fits =
+      let rest = drawsAt q random (length words - i) (at + width) in
+      let step : drawsAt q random (length words - i) at ≡ dropped rest =
+      rw (one-less inside, w) (drawsAt-dropped q random at (length words - (i + 1)) (going .least) (rw w at fits) above) in
+      record {
+        least = going .least;
+        most = going .most;
+        within = fits;
+        counted = omega arith;
+        whole = rw step at (going .whole) ∙ onward-dropped (take i words) groups rest;
+      }
+
+  pub going-exhausted : {n : ℕ} → length words ≡ n → i < length words → length random - at < qlen q → refused 9 ≡ drawnAnswer (drawsAt q random n start)
+  unfolding drawnAnswer answer firstRefusal
+  going-exhausted same inside short =
+      let ended : drawsAt q random (length words) start .enough ≡ false =
+      ap (λ (d : Drawn). d .enough) (going .whole) ∙ rw (one-less inside) (drawsAt-ended q random at (length words - (i + 1)) short) in
+      rw (← same, ended)
+
+  pub going-complete : {n g : ℕ} → length words ≡ n → length words ≤ i → g ≡ groups
+      → accepted (record { values = words; groups = g; enough = true }) ≡ drawnAnswer (drawsAt q random n start)
+  unfolding drawnAnswer answer firstRefusal draws
+  going-complete same done e =
+      let none : length words - i ≡ 0 = omega arith in
+      let whole : drawsAt q random (length words) start ≡ record { values = words; groups = groups; enough = true } =
+      going .whole ∙ rw (none, take-all i words done, append-nil, add-zero) in
+      rw (← same, whole, e)
+
+-- ---- what an answer tells a caller
+
+complete-told : (enough : Bool) (d e : Drawn) → accepted e ≡ answer [] (refuse 9 (not enough) ∷ []) d → d ≡ e
+unfolding answer firstRefusal
+complete-told true d e h = cc
+complete-told false d e h = cc
+
+exhausted-told : (enough : Bool) (d : Drawn) → refused 9 ≡ answer [] (refuse 9 (not enough) ∷ []) d → enough ≡ false
+unfolding answer firstRefusal
+exhausted-told true d h = cc
+exhausted-told false d h = refl
+
+pub said-complete : (d : Drawn) (words : List ℕ) {run : Run} {groups : ℕ} → run ≡ Complete groups → said run words ≡ drawnAnswer d
+    → d ≡ record { values = words; groups = groups; enough = true }
+unfolding drawnAnswer
+said-complete d words {groups = groups} e told = complete-told (d .enough) d (record { values = words; groups = groups; enough = true }) (rw e at told)
+
+pub said-exhausted : (d : Drawn) (words : List ℕ) {run : Run} → run ≡ Exhausted → said run words ≡ drawnAnswer d → d .enough ≡ false
+unfolding drawnAnswer
+said-exhausted d words e told = exhausted-told (d .enough) d (rw e at told)

@@ -1,0 +1,18 @@
+-- `draw_noise` is right because a noise element is drawn as it is packed. Assumes nothing.
+use borrow.Author.Needs.{needs}
+use Rattle.definitions.specs.Draws.{noiseDrawn}
+use Rattle.draws.proofs.draw_noise.Statement.{statement}
+use Rattle.draws.proofs.draw_noise.Tie as tie
+
+draw-small-requires : tie.Need-draw-small-requires
+draw-small-requires c κs = search needs
+
+same-length : tie.Need-same-length
+same-length c = search needs
+
+returns : tie.Need-returns
+unfolding noiseDrawn
+returns c = c .before .before .draw-small .ensures
+
+pub draw-noise-spec : {M : Type 1} → statement M
+draw-noise-spec = tie.close (tie.spec draw-small-requires same-length returns)

@@ -1,0 +1,2 @@
+-- What the draws answer.
+pub mod Runs

@@ -1,0 +1,82 @@
+// Draws from random octets (01, "Draws from lent random octets"): numbers below q, and small elements.
+// A run of draws is refused where the octets end before its last draw is complete. The contracts cite definitions/specs/Draws.antt.
+use parameters::Parameters;
+use parameters::lengths;
+ghost use mathlib.Core.Path.{_≡_};
+ghost use Prim.Native.Nat.{_+_, _-_, _≤_, _<_, _^_};
+ghost use lib.ListN.{length, take, drop};
+ghost use Rattle.definitions.specs.Parameters.{bitLength, smallBits, smallLength};
+ghost use Rattle.definitions.specs.Octets.{unpacked};
+ghost use Rattle.parameters.specs.Answers.{setFrom};
+ghost use Rattle.definitions.specs.Draws.{candidates, draws, secretDrawn, noiseDrawn};
+ghost use Rattle.draws.specs.Runs.{said, drawnAnswer};
+
+// What a run of draws below q answers: the groups that it took, or that the octets ended.
+pub enum Run {
+    Complete(usize),
+    Exhausted,
+}
+
+// As many ones as q has bits: a number and this is the number modulo 2 to the bit length of q.
+fn group_mask(q: u32) -> u32
+    requires { ⌜ (0 < q) × (q < 2 ^ 31) ⌝ }
+    ensures { λ r. ⌜ r ≡ 2 ^ bitLength q - 1 ⌝ }
+{
+    (1u32 << lengths::bit_length(q)) - 1
+}
+
+// As many draws below q as there are words, from the octets at a place on: a group of q or more is dropped and the next is taken.
+pub fn draw_below(random: &[u8], start: usize, q: u32, words: &mut [u32]) -> Run
+    requires { ⌜ (start ≤ length (now random)) × (0 < q) × (q < 2 ^ 31) ⌝ }
+    ensures { λ r. ⌜ said r (now (words .exit)) ≡ drawnAnswer (draws q (length (now (words .entry))) (candidates q (drop start (now (random .entry))))) ⌝ }
+{
+    let width = lengths::octets_of_coefficient(q);
+    let mask = group_mask(q);
+    let mut at = start;
+    let mut groups: usize = 0;
+    let mut i: usize = 0;
+    'coefficients: while i < words.len() {
+        let value = loop {
+            if random.len() - at < width {
+                break 'coefficients;
+            }
+            let x = octets::number(random, at, width) & mask;
+            at += width;
+            groups += 1;
+            if x < q {
+                break x;
+            }
+        };
+        words[i] = value;
+        i += 1;
+    }
+    if i < words.len() {
+        return Run::Exhausted;
+    }
+    Run::Complete(groups)
+}
+
+// A small element packed in the octets at a place on.
+fn draw_small(random: &[u8], at: usize, p: Parameters, words: &mut [u32])
+    requires { ⌜ (at + smallLength (setFrom p) ≤ length (now random)) × (length (now words) ≡ p .n) ⌝ }
+    ensures { λ _. ⌜ now (words .exit) ≡ unpacked (smallBits (p .l)) (p .n) (take (smallLength (setFrom p)) (drop at (now (random .entry)))) ⌝ }
+{
+    let end = at + lengths::small_length(p);
+    packing::unpack(&random[at..end], lengths::bits(p.l), words);
+}
+
+// The draw of a secret element.
+pub fn draw_secret(random: &[u8], at: usize, p: Parameters, words: &mut [u32])
+    requires { ⌜ (at + smallLength (setFrom p) ≤ length (now random)) × (length (now words) ≡ p .n) ⌝ }
+    ensures { λ _. ⌜ now (words .exit) ≡ secretDrawn (setFrom p) (drop at (now (random .entry))) ⌝ }
+{
+    draw_small(random, at, p, words);
+}
+
+// The draw of a noise element.
+pub fn draw_noise(random: &[u8], at: usize, p: Parameters, words: &mut [u32])
+    requires { ⌜ (at + smallLength (setFrom p) ≤ length (now random)) × (length (now words) ≡ p .n) ⌝ }
+    ensures { λ _. ⌜ now (words .exit) ≡ noiseDrawn (setFrom p) (drop at (now (random .entry))) ⌝ }
+{
+    draw_small(random, at, p, words);
+}

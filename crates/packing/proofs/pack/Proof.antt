@@ -1,0 +1,80 @@
+-- `packing::pack` calls one loop, at the b that its tests found.
+-- Assumes nothing.
+use mathlib.Core.Path.{_≡_}
+use native.Mathlib.Omega.{arith}
+use borrow.Author.Needs.{needs}
+use Rattle.packing.proofs.pack.Statement.{statement}
+use Rattle.packing.proofs.pack.Tie as tie
+
+pack-by-requires : tie.Need-pack-by-requires
+pack-by-requires c κs =
+    let s = c .before .before .before .before in
+    let e : s .args .b ≡ 1 = omega arith in
+    rw e at (s .pre)
+
+same-length : tie.Need-same-length
+same-length c = search needs
+
+returns : tie.Need-returns
+returns c =
+    let e : c .before .before .before .before .before .before .before .args .b ≡ 1 = omega arith in
+    rw e (c .before .before .pack-by .ensures)
+
+pack-by-requires-2 : tie.Need-pack-by-requires-2
+pack-by-requires-2 c κs =
+    let s = c .before .before .before .before .before in
+    let e : s .args .b ≡ 2 = omega arith in
+    rw e at (s .pre)
+
+same-length-2 : tie.Need-same-length-2
+same-length-2 c = search needs
+
+returns-2 : tie.Need-returns-2
+returns-2 c =
+    let e : c .before .before .before .before .before .before .before .before .args .b ≡ 2 = omega arith in
+    rw e (c .before .before .pack-by2 .ensures)
+
+pack-by-requires-3 : tie.Need-pack-by-requires-3
+pack-by-requires-3 c κs =
+    let s = c .before .before .before .before .before .before in
+    let e : s .args .b ≡ 3 = omega arith in
+    rw e at (s .pre)
+
+same-length-3 : tie.Need-same-length-3
+same-length-3 c = search needs
+
+returns-3 : tie.Need-returns-3
+returns-3 c =
+    let e : c .before .before .before .before .before .before .before .before .before .args .b ≡ 3 = omega arith in
+    rw e (c .before .before .pack-by3 .ensures)
+
+pack-by-requires-4 : tie.Need-pack-by-requires-4
+pack-by-requires-4 c κs =
+    let s = c .before .before .before .before .before .before in
+    let e : s .args .b ≡ 4 = omega arith in
+    rw e at (s .pre)
+
+same-length-4 : tie.Need-same-length-4
+same-length-4 c = search needs
+
+returns-4 : tie.Need-returns-4
+returns-4 c =
+    let e : c .before .before .before .before .before .before .before .before .before .args .b ≡ 4 = omega arith in
+    rw e (c .before .before .pack-by4 .ensures)
+
+pub pack-spec : {M : Type 1} → statement M
+pack-spec =
+    tie.close
+    (tie.spec
+    pack-by-requires
+    same-length
+    returns
+    pack-by-requires-2
+    same-length-2
+    returns-2
+    pack-by-requires-3
+    same-length-3
+    returns-3
+    pack-by-requires-4
+    same-length-4
+    returns-4)

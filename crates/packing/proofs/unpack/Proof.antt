@@ -1,0 +1,68 @@
+-- `packing::unpack` calls one loop, at the b that its tests found.
+-- Assumes nothing.
+use mathlib.Core.Path.{_≡_}
+use native.Mathlib.Omega.{arith}
+use borrow.Author.Needs.{needs}
+use Rattle.packing.proofs.unpack.Statement.{statement}
+use Rattle.packing.proofs.unpack.Tie as tie
+
+unpack-by-requires : tie.Need-unpack-by-requires
+unpack-by-requires c κs = search needs
+
+same-length : tie.Need-same-length
+same-length c = search needs
+
+returns : tie.Need-returns
+returns c =
+    let e : c .before .before .before .before .before .before .before .args .b ≡ 1 = omega arith in
+    rw e (c .before .before .unpack-by .ensures)
+
+unpack-by-requires-2 : tie.Need-unpack-by-requires-2
+unpack-by-requires-2 c κs = search needs
+
+same-length-2 : tie.Need-same-length-2
+same-length-2 c = search needs
+
+returns-2 : tie.Need-returns-2
+returns-2 c =
+    let e : c .before .before .before .before .before .before .before .before .args .b ≡ 2 = omega arith in
+    rw e (c .before .before .unpack-by2 .ensures)
+
+unpack-by-requires-3 : tie.Need-unpack-by-requires-3
+unpack-by-requires-3 c κs = search needs
+
+same-length-3 : tie.Need-same-length-3
+same-length-3 c = search needs
+
+returns-3 : tie.Need-returns-3
+returns-3 c =
+    let e : c .before .before .before .before .before .before .before .before .before .args .b ≡ 3 = omega arith in
+    rw e (c .before .before .unpack-by3 .ensures)
+
+unpack-by-requires-4 : tie.Need-unpack-by-requires-4
+unpack-by-requires-4 c κs = search needs
+
+same-length-4 : tie.Need-same-length-4
+same-length-4 c = search needs
+
+returns-4 : tie.Need-returns-4
+returns-4 c =
+    let e : c .before .before .before .before .before .before .before .before .before .args .b ≡ 4 = omega arith in
+    rw e (c .before .before .unpack-by4 .ensures)
+
+pub unpack-spec : {M : Type 1} → statement M
+unpack-spec =
+    tie.close
+    (tie.spec
+    unpack-by-requires
+    same-length
+    returns
+    unpack-by-requires-2
+    same-length-2
+    returns-2
+    unpack-by-requires-3
+    same-length-3
+    returns-3
+    unpack-by-requires-4
+    same-length-4
+    returns-4)
