@@ -1,0 +1,94 @@
+-- What stands where after a list was written over the work words: the list inside, the old words before and after it.
+-- A loop that writes one word a turn goes by `Writing`.
+-- Assumes nothing.
+use Prim.Native.Nat.{ℕ, zero, suc, _+_, _-_, _≤_, _<_, zero-le}
+use native.Mathlib.Nat.{add-zero, zero-add, add-suc}
+use native.Mathlib.Numerals.{add-one}
+use native.Mathlib.Omega.{arith}
+use mathlib.Core.Path.{_≡_, refl, sym, _∙_, ap, subst}
+use mathlib.Core.List.{List, [], _∷_, _++_, append-assoc}
+use lib.ListN.{length, getD, take, drop, set, length-append, length-set, length-take, length-drop, take-append-drop, List·getD-append}
+use lib.Seq.{drop-cons, set-at, getD-append-add, getD-take, getD-drop, length-take-le, ext-getD}
+use Rattle.definitions.specs.Sequences.{tabulate}
+use Rattle.definitions.proofs.Sums.{length-tabulate, getD-tabulate}
+use Rattle.ring.specs.Work.{part, written}
+
+pub tabulate-snoc : (n : ℕ) (f : ℕ → ℕ) → tabulate (suc n) f ≡ tabulate n f ++ (f n ∷ [])
+unfolding tabulate
+tabulate-snoc zero f = refl
+tabulate-snoc (suc n) f = ap (λ (l : List ℕ). f zero ∷ l) (tabulate-snoc n (λ i. f (suc i)))
+
+pub length-written : (at : ℕ) (new old : List ℕ) → at + length new ≤ length old → length (written at new old) ≡ length old
+unfolding written
+length-written at new old h = simp (length-append, length-take, length-drop) (omega arith)
+
+getD-past : (p s : List ℕ) {n : ℕ} (k : ℕ) → length p ≡ n → getD (p ++ s) (n + k) 0 ≡ getD s k 0
+getD-past p s k e = subst (λ (n : ℕ). getD (p ++ s) (n + k) 0 ≡ getD s k 0) e (getD-append-add p s k 0)
+
+pub getD-written : (at : ℕ) (new old : List ℕ) {k : ℕ} → at ≤ length old → k < length new → getD (written at new old) (at + k) 0 ≡ getD new k 0
+unfolding written
+getD-written at new old {k} h l =
+    getD-past (take at old) (new ++ drop (at + length new) old) k (length-take-le at old h)
+    ∙ List·getD-append new (drop (at + length new) old) 0 k l
+
+pub getD-written-before : (at : ℕ) (new old : List ℕ) {j : ℕ} → at ≤ length old → j < at → getD (written at new old) j 0 ≡ getD old j 0
+unfolding written
+getD-written-before at new old {j} h l =
+    List·getD-append (take at old) (new ++ drop (at + length new) old) 0 j (omega (arith, length-take-le at old h))
+    ∙ getD-take at old j 0 l
+
+pub getD-written-after : (at : ℕ) (new old : List ℕ) {j : ℕ} → at ≤ length old → at + length new ≤ j → getD (written at new old) j 0 ≡ getD old j 0
+unfolding written
+getD-written-after at new old {j} h l =
+    let m : ℕ = j - (at + length new) in
+    let e : j ≡ at + (length new + m) = omega arith in
+    let f : at + length new + m ≡ j = omega arith in
+    ap (λ (i : ℕ). getD (take at old ++ (new ++ drop (at + length new) old)) i 0) e
+    ∙ getD-past (take at old) (new ++ drop (at + length new) old) (length new + m) (length-take-le at old h)
+    ∙ getD-past new (drop (at + length new) old) m refl
+    ∙ getD-drop (at + length new) old m 0
+    ∙ ap (λ (i : ℕ). getD old i 0) f
+
+-- ---- a loop that writes one word a turn: after k turns `new` is `old` with f's first k values written
+pub record Writing (at k : ℕ) (f : ℕ → ℕ) (old new : List ℕ) : Type 0 where
+  pub as-long : length new ≡ length old
+  pub same : new ≡ written at (tabulate k f) old
+
+pub writing-none : (at : ℕ) (f : ℕ → ℕ) (old : List ℕ) → Writing at 0 f old old
+unfolding written tabulate
+writing-none at f old = record { as-long = refl; same = rw (add-zero at) (sym (take-append-drop at old)) }
+
+written-more : (at k : ℕ) (f : ℕ → ℕ) (old : List ℕ) {j : ℕ} → j ≡ at + k → j < length old → set (written at (tabulate k f) old) j (f k) ≡ written at (tabulate (k + 1) f) old
+unfolding written
+written-more at k f old {j} e l =
+    let head : List ℕ = take at old ++ tabulate k f in
+    let place : length head ≡ j = length-append (take at old) (tabulate k f) ∙ omega (arith, length-take-le at old (omega arith), length-tabulate k f) in
+    let next : suc j ≡ at + (k + 1) = omega arith in
+    rw (add-one k, tabulate-snoc k f, length-append (tabulate k f) (f k ∷ []), length-tabulate k f, ← e, drop-cons old j 0 l, ← append-assoc)
+    (set-at head (getD old j 0) (drop (suc j) old) (f k) j place
+    ∙ simp append-assoc (ap (λ (m : ℕ). take at old ++ (tabulate k f ++ f k ∷ drop m old)) next))
+
+pub writing-more : {at k : ℕ} {f : ℕ → ℕ} {old new : List ℕ} {j v : ℕ} → Writing at k f old new → j ≡ at + k → j < length old → v ≡ f k → Writing at (k + 1) f old (set new j v)
+writing-more {at} {k} {f} {old} {new} {j} {v} w e l h =
+    record { as-long = length-set new j v ∙ w .as-long; same = rw (w .same, h) (written-more at k f old e l) }
+
+-- a word that the loop has not come to
+pub writing-ahead : {at k : ℕ} {f : ℕ → ℕ} {old new : List ℕ} (j : ℕ) → Writing at k f old new → at ≤ length old → at + k ≤ j → getD new j 0 ≡ getD old j 0
+writing-ahead {at} {k} {f} {old} j w h l =
+    ap (λ (x : List ℕ). getD x j 0) (w .same)
+    ∙ getD-written-after at (tabulate k f) old h (subst (λ (m : ℕ). at + m ≤ j) (sym (length-tabulate k f)) l)
+
+pub writing-all : {at k n : ℕ} {f : ℕ → ℕ} {old new : List ℕ} → Writing at k f old new → k ≡ n → new ≡ written at (tabulate n f) old
+writing-all {at} {k} {n} {f} {old} w e = w .same ∙ ap (λ (m : ℕ). written at (tabulate m f) old) e
+
+pub length-written-tabulate : (at k : ℕ) (f : ℕ → ℕ) (old : List ℕ) → at + k ≤ length old → length (written at (tabulate k f) old) ≡ length old
+length-written-tabulate at k f old h = length-written at (tabulate k f) old (subst (λ (m : ℕ). at + m ≤ length old) (sym (length-tabulate k f)) h)
+
+-- ---- the element at an offset
+pub part-written : (at n : ℕ) (f : ℕ → ℕ) (old : List ℕ) {k : ℕ} → at ≤ length old → k < n → part (written at (tabulate n f) old) at k ≡ f k
+part-written at n f old {k} h l =
+    getD-written at (tabulate n f) old h (subst (λ (m : ℕ). k < m) (sym (length-tabulate n f)) l) ∙ getD-tabulate n f 0 l
+
+pub getD-written-front : (n : ℕ) (f : ℕ → ℕ) (old : List ℕ) {k : ℕ} → k < n → getD (written 0 (tabulate n f) old) k 0 ≡ f k
+getD-written-front n f old {k} l =
+    ap (λ (j : ℕ). getD (written 0 (tabulate n f) old) j 0) (sym (zero-add k)) ∙ part-written 0 n f old zero-le l

@@ -1,0 +1,2 @@
+-- How elements stand in the work words.
+pub mod Work
