@@ -6,7 +6,7 @@
 --   exit-refused      the first of the later tests that applies
 --   exit-accepted     no test applies
 -- Assumes nothing.
-use Prim.Native.Nat.{ℕ, suc}
+use Prim.Native.Nat.{ℕ, suc, _≤_}
 use mathlib.Core.Path.{_≡_, sym, ap, _∙_}
 use mathlib.Core.Bool.{Bool, true, false, cond}
 use mathlib.Core.List.{List}
@@ -17,7 +17,16 @@ use Rattle.definitions.specs.Demand3.{AcceptedSet}
 use Rattle.definitions.proofs.Refusals.{firstRefusal-append-refused, answer-untouched, answer-refused, answer-accepted}
 use Rattle.definitions.proofs.Calls.{lengthTests-decide}
 use Rattle.parameters.proofs.Answers.{answer-untouched-at}
+use Rattle.definitions.proofs.Parameters.{Accepted}
 use native.Mathlib.Nat.{pos-of-ne-zero}
+use native.Mathlib.Omega.{arith}
+use mathlib.Core.Logic.{⊎-elim}
+
+pub key-degree-most : (p : Parameters) → Accepted p → p .dx ≤ 2
+key-degree-most p a = ⊎-elim (λ e. omega arith) (λ e. omega arith) (a .key-degree)
+
+pub mask-degree-most : (p : Parameters) → Accepted p → p .dr ≤ 2
+mask-degree-most p a = ⊎-elim (λ e. omega arith) (λ e. omega arith) (a .mask-degree)
 
 module _ {A E : Type 0} (leaves : Answer A → E) (p : Parameters) (exact : Bool) (later : List Test) (a : A) where
   pub exit-set : {k : ℕ} → k ≡ firstRefusal (setTests p) → (k ≡ 0 → ⊥) → leaves (untouched k) ≡ leaves (answer (lengthTests p exact) later a)
