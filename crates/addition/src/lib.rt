@@ -1,0 +1,75 @@
+// Adding two ciphertexts (01, "Draws from lent random octets": adding): element by element, each coefficient modulo q.
+// It refuses an unfit set (1 to 5), a length that is not the exact one (6) and a coefficient that is not below q in either summand (8);
+// a refusal leaves the output as it was. The two summands may be one buffer. The contract cites the definitions' addExit. The sum of two
+// coefficients is ring::sum alone.
+ghost use mathlib.Core.Path.{_≡_};
+ghost use Rattle.definitions.specs.Octets.{encoded};
+ghost use Rattle.definitions.specs.Calls.{AddExit, addExit};
+ghost use Rattle.parameters.specs.Answers.{setFrom};
+ghost use Rattle.addition.specs.Sums.{Judged, coefficientSums};
+use parameters::Parameters;
+use parameters::lengths;
+use parameters::refusals;
+
+// So many coefficients, of summands that were judged.
+fn add_by(a: &[u8], b: &[u8], count: usize, qlen: usize, q: u32, sum: &mut [u8])
+    requires { ⌜ Judged q qlen count (now a) (now b) (now sum) ⌝ }
+    ensures { λ _. ⌜ now (sum .exit) ≡ encoded qlen (coefficientSums q qlen count (now (a .entry)) (now (b .entry))) ⌝ }
+{
+    let mut m = 0;
+    while m < count {
+        let at = m * qlen;
+        let x = octets::number(a, at, qlen);
+        let y = octets::number(b, at, qlen);
+        octets::store(sum, at, qlen, ring::sum(x, y, q));
+        m += 1;
+    }
+}
+
+// One loop for each qlen, by a constant.
+fn add_octets(a: &[u8], b: &[u8], count: usize, qlen: usize, q: u32, sum: &mut [u8])
+    requires { ⌜ Judged q qlen count (now a) (now b) (now sum) ⌝ }
+    ensures { λ _. ⌜ now (sum .exit) ≡ encoded qlen (coefficientSums q qlen count (now (a .entry)) (now (b .entry))) ⌝ }
+{
+    if qlen == 1 {
+        add_by(a, b, count, 1, q, sum);
+        return;
+    }
+    if qlen == 2 {
+        add_by(a, b, count, 2, q, sum);
+        return;
+    }
+    if qlen == 3 {
+        add_by(a, b, count, 3, q, sum);
+        return;
+    }
+    add_by(a, b, count, 4, q, sum);
+}
+
+pub fn add(p: Parameters, a: &[u8], b: &[u8], sum: &mut [u8]) -> u32
+    ensures { λ r. ⌜ _≡_ {A = AddExit} (record { refusal = r; sum = now (sum .exit) }) (addExit (setFrom p) (now (a .entry)) (now (b .entry)) (now (sum .entry))) ⌝ }
+{
+    let refused = parameters::refusal(p);
+    if refused != 0 {
+        return refused;
+    }
+    let length = lengths::ciphertext_length(p);
+    if a.len() != length {
+        return refusals::LENGTH;
+    }
+    if b.len() != length {
+        return refusals::LENGTH;
+    }
+    if sum.len() != length {
+        return refusals::LENGTH;
+    }
+    let qlen = lengths::octets_of_coefficient(p.q);
+    if octets::judge(a, qlen, p.q) != 0 {
+        return refusals::COEFFICIENT;
+    }
+    if octets::judge(b, qlen, p.q) != 0 {
+        return refusals::COEFFICIENT;
+    }
+    add_octets(a, b, length / qlen, qlen, p.q, sum);
+    0
+}
