@@ -6,8 +6,8 @@ ghost use Rattle.definitions.specs.Refusals.{firstRefusal};
 ghost use Rattle.definitions.specs.Parameters.{setTests, LimitsExit, limitsExit, LengthsExit, lengthsExit};
 ghost use Rattle.definitions.specs.Calls.{AddExit, addExit};
 ghost use Rattle.giophantus.specs.Interface.{set, limitsOf, lengthsOf};
-use parameters::Parameters;
 use parameters::LimitsAnswer;
+use parameters::Parameters;
 use parameters::lengths;
 
 // The set's refusal, 0 where it is accepted.
@@ -15,15 +15,38 @@ use parameters::lengths;
 pub extern "C" fn giophantus_check(l: u32, q: u32, n: u32, dx: u32, dr: u32, mlen: u32) -> u32
     ensures { λ r. ⌜ r ≡ firstRefusal (setTests (set l q n dx dr mlen)) ⌝ }
 {
-    parameters::refusal(Parameters { l, q, n, dx, dr, mlen })
+    parameters::refusal(Parameters {
+        l,
+        q,
+        n,
+        dx,
+        dr,
+        mlen,
+    })
 }
 
 // The noise bound and the headroom.
 #[no_mangle]
-pub extern "C" fn giophantus_limits(l: u32, q: u32, n: u32, dx: u32, dr: u32, mlen: u32, bound: &mut u32, headroom: &mut u32) -> u32
+pub extern "C" fn giophantus_limits(
+    l: u32,
+    q: u32,
+    n: u32,
+    dx: u32,
+    dr: u32,
+    mlen: u32,
+    bound: &mut u32,
+    headroom: &mut u32,
+) -> u32
     ensures { λ r. ⌜ _≡_ {A = LimitsExit} (record { refusal = r; limits = limitsOf (now (bound .exit)) (now (headroom .exit)) }) (limitsExit (set l q n dx dr mlen) (limitsOf (now (bound .entry)) (now (headroom .entry)))) ⌝ }
 {
-    match parameters::limits(Parameters { l, q, n, dx, dr, mlen }) {
+    match parameters::limits(Parameters {
+        l,
+        q,
+        n,
+        dx,
+        dr,
+        mlen,
+    }) {
         LimitsAnswer::Accepted(x) => {
             *bound = x.bound;
             *headroom = x.headroom;
@@ -50,7 +73,14 @@ pub extern "C" fn giophantus_lengths(
 ) -> u32
     ensures { λ r. ⌜ _≡_ {A = LengthsExit} (record { refusal = r; lengths = lengthsOf (now («secret_key» .exit)) (now («public_key» .exit)) (now (message .exit)) (now (ciphertext .exit)) (now (work .exit)) }) (lengthsExit (set l q n dx dr mlen) (lengthsOf (now («secret_key» .entry)) (now («public_key» .entry)) (now (message .entry)) (now (ciphertext .entry)) (now (work .entry)))) ⌝ }
 {
-    let p = Parameters { l, q, n, dx, dr, mlen };
+    let p = Parameters {
+        l,
+        q,
+        n,
+        dx,
+        dr,
+        mlen,
+    };
     let refused = parameters::refusal(p);
     if refused != 0 {
         return refused;
@@ -65,8 +95,30 @@ pub extern "C" fn giophantus_lengths(
 
 // The sum of two ciphertexts, which may be one buffer.
 #[no_mangle]
-pub extern "C" fn giophantus_add(l: u32, q: u32, n: u32, dx: u32, dr: u32, mlen: u32, a: &[u8], b: &[u8], sum: &mut [u8]) -> u32
+pub extern "C" fn giophantus_add(
+    l: u32,
+    q: u32,
+    n: u32,
+    dx: u32,
+    dr: u32,
+    mlen: u32,
+    a: &[u8],
+    b: &[u8],
+    sum: &mut [u8],
+) -> u32
     ensures { λ r. ⌜ _≡_ {A = AddExit} (record { refusal = r; sum = now (sum .exit) }) (addExit (set l q n dx dr mlen) (now (a .entry)) (now (b .entry)) (now (sum .entry))) ⌝ }
 {
-    addition::add(Parameters { l, q, n, dx, dr, mlen }, a, b, sum)
+    addition::add(
+        Parameters {
+            l,
+            q,
+            n,
+            dx,
+            dr,
+            mlen,
+        },
+        a,
+        b,
+        sum,
+    )
 }
