@@ -1,0 +1,5 @@
+-- Laws of parts, numbers and printed text.
+pub mod Parts
+pub mod Digits
+pub mod Numbers
+pub mod Fields
