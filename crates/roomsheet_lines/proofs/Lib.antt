@@ -3,3 +3,4 @@ pub mod Parts
 pub mod Digits
 pub mod Numbers
 pub mod Fields
+pub mod Printing

@@ -17,18 +17,17 @@ pub const ANSWER_ROOM: usize = 33;
 fn decimal_length(x: u32) -> usize
     ensures { λ r. ⌜ r ≡ decimalLength x ⌝ }
 {
-    let x = x as u64;
     let mut power = 10u64;
-    let mut length = 1;
-    let mut k = 0;
+    let mut digits = 1usize;
+    let mut k = 0usize;
     while k < 9 {
-        if power <= x {
-            length += 1;
+        if power <= x as u64 {
+            digits += 1;
         }
         power *= 10;
         k += 1;
     }
-    length
+    digits
 }
 
 // A number in decimal at a place of the buffer; answers the place behind it. The digits are written from the last to the first.

@@ -1,43 +1,47 @@
+-- `decimal_length` meets its contract: after k turns it has counted the first k powers of ten that the number reaches.
+-- Assumes nothing.
+use Prim.Native.Nat.{_-_}
+use mathlib.Core.Path.{subst⁻¹}
+use mathlib.Core.Logic.{⊎-elim}
+use native.Mathlib.Omega.{arith}
+use Rattle.roomsheet_lines.proofs.Printing.{Counting, counting-start, power-le, counting-reached, counting-passed, counting-end}
 use Rattle.roomsheet_lines.proofs.print.decimal_length.Statement.{statement}
 use Rattle.roomsheet_lines.proofs.print.decimal_length.Tie as tie
 use Rattle.roomsheet_lines.proofs.print.decimal_length.Reads as reads
 use Rattle.roomsheet_lines.proofs.print.decimal_length.Lts as lts
 
 abbrev Inv-loop : tie.InvT-loop
-Inv-loop x x' power₀ length₀ k₀ power length k = ?
+Inv-loop x power₀ digits₀ k₀ power digits k = Counting x power digits k
 
 abbrev μ-loop : tie.MeasureT-loop
-μ-loop x x' power₀ length₀ k₀ power length k = ?
+μ-loop x power₀ digits₀ k₀ power digits k = 9 - k
 
--- src/print.rt:24:5
 loop-holds : tie.Need-loop-holds Inv-loop μ-loop
-loop-holds c = ?
+loop-holds c = counting-start _
 
--- src/print.rt:26:13
-add-length : tie.Need-add-length Inv-loop μ-loop
-add-length c = ?
+add-digits : tie.Need-add-digits Inv-loop μ-loop
+add-digits c = omega arith
 
--- src/print.rt:28:9
 mul-power : tie.Need-mul-power Inv-loop μ-loop
-mul-power c = ?
+mul-power c = omega (arith, power-le _ _ _ _ (c .before .before .loop .inv) (c .before .loop-test .taken))
 
--- src/print.rt:29:9
 add-k : tie.Need-add-k Inv-loop μ-loop
-add-k c = ?
+add-k c = omega arith
 
--- src/print.rt:24:5
 loop-less : tie.Need-loop-less Inv-loop μ-loop
-loop-less c = ?
+loop-less c = omega arith
 
--- src/print.rt:24:5
 loop-again : tie.Need-loop-again Inv-loop μ-loop
-loop-again c = ?
+loop-again c =
+    let inv = c .before .before .loop .inv in
+    let more = c .before .loop-test .taken in
+    ⊎-elim
+    (λ w. rw (w .1) (counting-reached _ _ _ _ inv more (w .0 .taken)))
+    (λ w. rw (w .1) (counting-passed _ _ _ _ inv more (w .0 .left)))
+    (c .if1 .came)
 
--- src/print.rt:17:1
 returns : tie.Need-returns Inv-loop μ-loop
-returns c = ?
+returns c = counting-end _ _ _ _ (c .before .loop .inv) (c .loop-test .left)
 
 pub decimal-length-spec : {M : Type 1} → statement M
-decimal-length-spec =
-    tie.close
-    (tie.spec Inv-loop μ-loop loop-holds add-length mul-power add-k loop-less loop-again returns)
+decimal-length-spec = tie.close (tie.spec Inv-loop μ-loop loop-holds add-digits mul-power add-k loop-less loop-again returns)
