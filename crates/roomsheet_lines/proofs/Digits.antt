@@ -6,18 +6,17 @@
 --                        and at an octet that does not go on
 -- Assumes nothing.
 use Prim.Native.Nat.{ℕ, zero, suc, _+_, _-_, _*_, _≤_, _<_}
-use native.Mathlib.Nat.{le-trans, lt-of-lt-of-le, add-zero}
+use native.Mathlib.Nat.{lt-of-lt-of-le, add-zero}
 use native.Mathlib.Decide.{decLt}
 use native.Mathlib.Omega.{arith}
-use mathlib.Core.Path.{_≡_, refl, sym, ap, ap₂, _∙_}
-use mathlib.Core.Bool.{Bool, true, false, cond, _&&_, and-true, and-false, and-assoc}
-use mathlib.Core.List.{List, [], _∷_}
+use mathlib.Core.Path.{_≡_, refl, sym, ap, _∙_}
+use mathlib.Core.Bool.{Bool, true, false, _&&_, and-true, and-false, and-assoc}
+use mathlib.Core.List.{[], _∷_}
 use lib.Dec.{leb}
-use lib.ListN.{length, getD, drop}
+use lib.ListN.{length, getD}
 use borrow.Author.Tests.{le-leb, lt-leb}
 use Rattle.definitions.specs.Sequences.{every}
 use Rattle.definitions.specs.Roomsheet.{Text, isDigit, decimalFrom, decimal}
-use Rattle.roomsheet_lines.specs.Parts.{upTo}
 use Rattle.roomsheet_lines.specs.Numbers.{digitsFit, fieldAt, readAs, digitsAt}
 use Rattle.roomsheet_lines.specs.declared.parse.Number.{Number}
 

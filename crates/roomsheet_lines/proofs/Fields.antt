@@ -10,16 +10,16 @@ use native.Mathlib.Numerals.{add-one}
 use native.Mathlib.Omega.{arith}
 use native.Mathlib.Decide.{decLt, ℕ-discrete}
 use mathlib.Core.Path.{_≡_, refl, sym, ap, ap₂, _∙_}
-use mathlib.Core.Bool.{Bool, true, false, cond, _&&_, and-false, true≢false}
-use mathlib.Core.List.{List, [], _∷_, _++_, map, append-nil, append-assoc}
-use lib.Dec.{leb, eqb, eqb·suc-suc, eqb·zero-suc}
+use mathlib.Core.Bool.{Bool, true, false, _&&_, true≢false}
+use mathlib.Core.List.{List, [], _∷_, _++_, map, append-assoc}
+use lib.Dec.{eqb, eqb·suc-suc, eqb·zero-suc}
 use lib.ListN.{length, getD, take, drop, set, length-set, length-drop}
 use lib.Seq.{take-suc-set, drop-drop}
 use borrow.Author.Tests.{le-leb, lt-leb, eq-eqb, ne-eqb, eqb-true}
 use Rattle.definitions.specs.Sequences.{every}
 use Rattle.definitions.specs.Roomsheet.{Text, split, decimal, isNumber, wellFormed, numbersOf}
 use Rattle.roomsheet_lines.specs.Parts.{upTo, past, Without}
-use Rattle.roomsheet_lines.specs.Numbers.{fieldAt, readAs, numberAt, NumbersRead}
+use Rattle.roomsheet_lines.specs.Numbers.{fieldAt, numberAt, NumbersRead}
 use Rattle.roomsheet_lines.specs.declared.parse.Number.{Number}
 use Rattle.roomsheet_lines.proofs.Parts.{length-upTo, upTo-whole, past-drop, split-last, split-more}
 use Rattle.roomsheet_lines.proofs.Digits.{every-cons}

@@ -4,3 +4,6 @@ pub mod Digits
 pub mod Numbers
 pub mod Fields
 pub mod Printing
+pub mod Judging
+pub mod Streams
+pub mod Buffers

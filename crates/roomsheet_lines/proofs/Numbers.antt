@@ -4,19 +4,17 @@
 --   read-value, read-malformed     what a read of digits tells about the field
 --   number-..            what reading a number finds, by the same cases
 -- Assumes nothing.
-use Prim.Native.Nat.{ℕ, zero, suc, _+_, _≤_, _<_}
+use Prim.Native.Nat.{ℕ, _+_, _≤_, _<_}
 use native.Mathlib.Nat.{add-zero}
 use native.Mathlib.Omega.{arith}
 use mathlib.Core.Path.{_≡_, refl, sym, ap, _∙_}
-use mathlib.Core.Bool.{Bool, true, false, cond, _&&_, _||_, and-false, or-true}
-use mathlib.Core.List.{List, [], _∷_}
+use mathlib.Core.Bool.{Bool, true, false, _&&_, _||_, and-false, or-true}
 use lib.Dec.{leb, eqb}
-use lib.ListN.{length, getD, take, drop}
+use lib.ListN.{length, getD, drop}
 use lib.Seq.{getD-take, getD-drop}
-use borrow.Author.Tests.{le-leb, lt-leb, eq-eqb, ne-eqb}
+use borrow.Author.Tests.{le-leb, lt-leb, ne-eqb}
 use Rattle.definitions.specs.Sequences.{every}
 use Rattle.definitions.specs.Roomsheet.{Text, isDigit, decimal, isNumber}
-use Rattle.roomsheet_lines.specs.Parts.{upTo}
 use Rattle.roomsheet_lines.specs.Numbers.{digitsFit, fieldAt, readAs, digitsAt, numberAt}
 use Rattle.roomsheet_lines.specs.declared.parse.Number.{Number}
 use Rattle.roomsheet_lines.proofs.Parts.{take-upTo}

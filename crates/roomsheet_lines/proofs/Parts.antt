@@ -3,19 +3,18 @@
 --   upTo-hit, upTo-miss      the first part of a text whose first octet is the separator, or is not
 --   upTo-drop-..             the same at a place of a list
 --   upTo-append, past-append a front without separators stays in the first part
---   take-upTo, drop-past     the first part and the octets after it, by their length
+--   take-upTo, past-drop     the first part and the octets after it, by their length
+--   upTo-past                both, with the separator between
+--   without-take             a front of a text without separators has none
 --   split-more, split-last   the parts of a text, by its first part
 --   linesOf-cons             the lines of a text that is not empty, by its first
 -- Assumes nothing.
 use Prim.Native.Nat.{ℕ, zero, suc, _+_, _≤_, _<_}
-use native.Mathlib.Nat.{le-of-suc-le-suc}
 use native.Mathlib.Numerals.{add-one}
 use native.Mathlib.Decide.{ℕ-discrete}
 use native.Mathlib.Omega.{arith}
 use mathlib.Core.Path.{_≡_, refl, sym, ap, _∙_}
-use mathlib.Core.Bool.{cond}
-use mathlib.Core.List.{List, [], _∷_, _++_}
-use lib.Dec.{eqb}
+use mathlib.Core.List.{[], _∷_, _++_, append-nil}
 use lib.ListN.{length, getD, take, drop, drop-of-length-le}
 use lib.Seq.{drop-cons, take-length}
 use borrow.Author.Tests.{eq-eqb, ne-eqb}
@@ -30,11 +29,11 @@ pub upTo-miss : {s c : ℕ} (t : Text) → (c ≡ s → ⊥) → upTo s (c ∷ t
 unfolding upTo
 upTo-miss {s} {c} t n = rw (ne-eqb c s n)
 
-past-hit : {s c : ℕ} (t : Text) → c ≡ s → past s (c ∷ t) ≡ t
+pub past-hit : {s c : ℕ} (t : Text) → c ≡ s → past s (c ∷ t) ≡ t
 unfolding past
 past-hit {s} {c} t e = rw (eq-eqb c s e)
 
-past-miss : {s c : ℕ} (t : Text) → (c ≡ s → ⊥) → past s (c ∷ t) ≡ past s t
+pub past-miss : {s c : ℕ} (t : Text) → (c ≡ s → ⊥) → past s (c ∷ t) ≡ past s t
 unfolding past
 past-miss {s} {c} t n = rw (ne-eqb c s n)
 
@@ -109,6 +108,26 @@ module _ (s : ℕ) where
   -- a first part as long as the text is the text
   pub upTo-whole : (t : Text) → length (upTo s t) ≡ length t → Without s t
   upTo-whole t e = sym (take-upTo t) ∙ rw e (take-length t)
+
+  pub past-whole : (t : Text) → Without s t → past s t ≡ []
+  unfolding past
+  past-whole t w = ap (past s) (sym (append-nil t)) ∙ past-append t [] w
+
+  -- a text is its first part, a separator and the rest
+  pub upTo-past : (t : Text) → length (upTo s t) < length t → t ≡ upTo s t ++ (s ∷ past s t)
+  upTo-past [] h = let z : ⊥ = omega arith in absurd z
+  upTo-past (c ∷ t) h =
+      elim (ℕ-discrete c s) [
+        | yes e ↦ rw (upTo-hit t e, past-hit t e, e)
+        | no n ↦ rw (upTo-miss t n, past-miss t n) (ap (λ (r : Text). c ∷ r) (upTo-past t (omega (arith, ap length (upTo-miss t n)))))
+      ]
+
+  pub without-take : (n : ℕ) (t : Text) → Without s t → Without s (take n t)
+  without-take zero t w = unfold upTo in refl
+  without-take (suc n) [] w = w
+  without-take (suc n) (c ∷ t) w =
+      let both = without-cons w in
+      upTo-miss (take n t) (both .0) ∙ ap (λ (r : Text). c ∷ r) (without-take n t (both .1))
 
   -- ---- the parts of a text
 

@@ -3,22 +3,25 @@
 --   appended-octet       one octet
 --   appended-append      two texts, one after the other
 --   decimalLength-le     a number has at most 10 digits
+--   decimalText-le, limitsText-le, lineText-le     so a number takes at most 10 octets, an answer 32, and 33 with its newline
 --   Counting             what holds after k powers of ten are compared
 --   Writing              what holds where the last digits of a number are written;  writing-start, -next, -end
 -- Assumes nothing.
 use Prim.Native.Nat.{ℕ, zero, suc, _+_, _-_, _*_, _/_, _%_, _^_, _≤_, _<_}
-use native.Mathlib.Nat.{add-assoc, div-one, div-div-eq-div-mul, pow-suc, pow-le-pow-right}
+use native.Mathlib.Nat.{div-one, div-div-eq-div-mul, pow-suc, pow-le-pow-right}
 use native.Mathlib.Numerals.{add-one}
 use native.Mathlib.Omega.{arith}
 use mathlib.Core.Path.{_≡_, refl, sym, ap, ap₂, _∙_}
 use mathlib.Core.Bool.{Bool, true, false, cond}
 use mathlib.Core.List.{List, [], _∷_, _++_, append-assoc}
 use lib.Dec.{leb}
-use lib.ListN.{length, getD, take, drop, set, length-append, length-set}
+use lib.ListN.{length, take, drop, set, length-append, length-set}
 use lib.Seq.{take-suc-set, take-set-le, take-add, drop-cons, drop-set-lt, getD-set-same}
 use borrow.Author.Tests.{le-leb, lt-leb}
 use Rattle.definitions.specs.Sequences.{sum, howMany, tabulate}
-use Rattle.definitions.specs.Roomsheet.{Text, decimalLength, decimalText}
+use Rattle.definitions.specs.Refusals.{Answer, untouched, refused, accepted}
+use Rattle.definitions.specs.Parameters.{Limits, limitsAnswer}
+use Rattle.definitions.specs.Roomsheet.{Text, decimalLength, decimalText, wellFormed, numbersOf, setOf, limitsText, lineAnswer}
 use Rattle.definitions.proofs.Roomsheet.{digits, digits-suc, length-decimalText}
 use Rattle.roomsheet_lines.specs.Texts.{Appended}
 
@@ -100,6 +103,31 @@ decimalLength-le x = omega (arith, howMany-le 9 (λ k. leb (10 ^ suc k) x))
 pub decimalText-le : (x : ℕ) → length (decimalText x) ≤ 10
 decimalText-le x = omega (arith, length-decimalText x, decimalLength-le x)
 
+pub limitsText-le : (a : Answer Limits) → length (limitsText a) ≤ 32
+unfolding limitsText
+limitsText-le (untouched k) = omega (arith, decimalText-le k)
+limitsText-le (refused k) = omega (arith, decimalText-le k)
+limitsText-le (accepted x) =
+    omega (
+      arith,
+      decimalText-le 0,
+      decimalText-le (x .bound),
+      decimalText-le (x .headroom),
+      length-append (decimalText 0) (32 ∷ (decimalText (x .bound) ++ (32 ∷ decimalText (x .headroom)))),
+      length-append (decimalText (x .bound)) (32 ∷ decimalText (x .headroom)),
+    )
+
+lineAnswer-le : (line : Text) → length (lineAnswer line) ≤ 32
+unfolding lineAnswer
+lineAnswer-le line = go (wellFormed 6 line)
+  where
+    go : (t : Bool) → length (cond t (limitsText (limitsAnswer (setOf (numbersOf line)))) (decimalText 11)) ≤ 32
+    go true = limitsText-le (limitsAnswer (setOf (numbersOf line)))
+    go false = omega (arith, decimalText-le 11)
+
+pub lineText-le : (line : Text) → length (lineAnswer line ++ (10 ∷ [])) ≤ 33
+lineText-le line = omega (arith, lineAnswer-le line, length-append (lineAnswer line) (10 ∷ []))
+
 -- ---- the digits, from the last to the first
 
 pub record Writing (before out : List ℕ) (at end x rest i : ℕ) : Type 0 where
@@ -141,7 +169,7 @@ module _ (before out : List ℕ) (at end x rest i : ℕ) (w : Writing before out
         kept = length-set out j digit ∙ w .kept;
         front = take-set-le at out j digit h ∙ w .front;
         written = rw (more, stored, digits-suc (end - i) x)
-        (ap₂ _∷_ (ap (λ (n : ℕ). 48 + n % 10) (w .rest-is)) (w .written));
+            (ap₂ _∷_ (ap (λ (n : ℕ). 48 + n % 10) (w .rest-is)) (w .written));
         rest-is = rw (more, w .rest-is, pow-suc 10 (end - i)) (div-div-eq-div-mul x (10 ^ (end - i)) 10);
       }
 
@@ -152,6 +180,6 @@ module _ (before out : List ℕ) (at end x rest i : ℕ) (w : Writing before out
       let all : end - i ≡ decimalLength x = omega arith in
       record {
         held = ap (λ (n : ℕ). take n out) e ∙ take-add at (decimalLength x) out
-        ∙ ap₂ (λ (a b : Text). a ++ b) (w .front) (rw (all, first) at (w .written));
+            ∙ ap₂ (λ (a b : Text). a ++ b) (w .front) (rw (all, first) at (w .written));
         end-is = rw (length-decimalText x) e;
       }

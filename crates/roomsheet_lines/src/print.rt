@@ -46,7 +46,7 @@ fn put_number(out: &mut [u8], at: usize, x: u32) -> usize
     end
 }
 
-fn put_octet(out: &mut [u8], at: usize, c: u8) -> usize
+pub fn put_octet(out: &mut [u8], at: usize, c: u8) -> usize
     requires { ⌜ at + 1 ≤ length (now out) ⌝ }
     ensures { λ r. ⌜ Appended (now (out .entry)) at (now (out .exit)) r (c ∷ []) ⌝ }
 {

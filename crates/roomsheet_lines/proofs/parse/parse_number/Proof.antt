@@ -1,9 +1,8 @@
 -- `parse_number` meets its contract: the digits read are a number where there is one, or several with the first above zero.
 -- Assumes nothing.
-use Prim.Native.Nat.{_<_}
 use mathlib.Core.Path.{_≡_, sym, _∙_}
 use native.Mathlib.Omega.{arith}
-use lib.ListN.{length, drop, length-drop}
+use lib.ListN.{drop, length-drop}
 use borrow.Author.Needs.{needs}
 use Rattle.roomsheet_lines.specs.Numbers.{digitsFit, fieldAt, digitsAt}
 use Rattle.roomsheet_lines.specs.declared.parse.Number.{Number}
@@ -11,8 +10,6 @@ use Rattle.roomsheet_lines.proofs.Parts.{length-upTo}
 use Rattle.roomsheet_lines.proofs.Numbers.{Read, read-value, read-malformed, number-none, number-empty, number-zero, number-one, number-many}
 use Rattle.roomsheet_lines.proofs.parse.parse_number.Statement.{statement}
 use Rattle.roomsheet_lines.proofs.parse.parse_number.Tie as tie
-use Rattle.roomsheet_lines.proofs.parse.parse_number.Reads as reads
-use Rattle.roomsheet_lines.proofs.parse.parse_number.Lts as lts
 
 -- what was read is what `read_digits` answers
 read-told : (c : tie.After-known-told) →

@@ -9,8 +9,6 @@ use borrow.Author.Needs.{needs}
 use Rattle.roomsheet_lines.proofs.Fields.{Progress, progress-start, long-read, progress-over, progress-spoiled, progress-end, progress-next}
 use Rattle.roomsheet_lines.proofs.parse.parse_numbers.Statement.{statement}
 use Rattle.roomsheet_lines.proofs.parse.parse_numbers.Tie as tie
-use Rattle.roomsheet_lines.proofs.parse.parse_numbers.Reads as reads
-use Rattle.roomsheet_lines.proofs.parse.parse_numbers.Lts as lts
 
 abbrev Inv-loop : tie.InvT-loop
 Inv-loop line count numbers₀ at₀ i₀ numbers at i = Progress line count numbers₀ numbers at i

@@ -1,14 +1,11 @@
 -- `decimal_length` meets its contract: after k turns it has counted the first k powers of ten that the number reaches.
 -- Assumes nothing.
 use Prim.Native.Nat.{_-_}
-use mathlib.Core.Path.{subst⁻¹}
 use mathlib.Core.Logic.{⊎-elim}
 use native.Mathlib.Omega.{arith}
 use Rattle.roomsheet_lines.proofs.Printing.{Counting, counting-start, power-le, counting-reached, counting-passed, counting-end}
 use Rattle.roomsheet_lines.proofs.print.decimal_length.Statement.{statement}
 use Rattle.roomsheet_lines.proofs.print.decimal_length.Tie as tie
-use Rattle.roomsheet_lines.proofs.print.decimal_length.Reads as reads
-use Rattle.roomsheet_lines.proofs.print.decimal_length.Lts as lts
 
 abbrev Inv-loop : tie.InvT-loop
 Inv-loop x power₀ digits₀ k₀ power digits k = Counting x power digits k

@@ -6,8 +6,6 @@ use Rattle.definitions.specs.Roomsheet.{limitsText}
 use Rattle.roomsheet_lines.proofs.Printing.{decimalText-le, appended-append}
 use Rattle.roomsheet_lines.proofs.print.put_limits.Statement.{statement}
 use Rattle.roomsheet_lines.proofs.print.put_limits.Tie as tie
-use Rattle.roomsheet_lines.proofs.print.put_limits.Reads as reads
-use Rattle.roomsheet_lines.proofs.print.put_limits.Lts as lts
 
 enum-known-answer : tie.Need-enum-known-answer
 enum-known-answer c = search needs

@@ -1,7 +1,5 @@
 -- `put_number` meets its contract: where the digits from i on are written, they are the last of the number, and rest has the others.
 -- Assumes nothing.
-use Prim.Native.Nat.{_+_}
-use mathlib.Core.Path.{ap}
 use native.Mathlib.Omega.{arith}
 use borrow.Author.Needs.{needs}
 use Rattle.roomsheet_lines.proofs.Printing.{decimalLength-le, Writing, writing-start, writing-next, writing-end}
