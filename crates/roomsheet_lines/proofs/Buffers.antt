@@ -1,12 +1,13 @@
 -- What the loops over a buffer keep.
 --
---   Answering            where the lines up to a place are answered;  answering-start, -next, -done: where it begins, a line on, and that no
---                        ended line is left
+--   Answering            where the lines up to a place are answered;  answering-start, -next, -done, -onward: where it begins, a line on,
+--                        that no ended line is left, and that some line is answered
 --   Moving               where the first i octets are moved;  moving-start, -next
 --   chunk-..             what is kept of a chunk stands for what is left of it
 -- Assumes nothing.
 use Prim.Native.Nat.{ℕ, suc, _+_, _-_, _≤_, _<_, min}
 use native.Mathlib.Numerals.{add-one}
+use native.Mathlib.Nat.{pos-of-ne-zero}
 use native.Mathlib.Omega.{arith}
 use native.Mathlib.Decide.{decLt}
 use mathlib.Core.Path.{_≡_, refl, sym, ap, ap₂, _∙_}
@@ -28,9 +29,10 @@ pub record Answering (text before out : List ℕ) (used written : ℕ) : Type 0 
   pub written-le : written ≤ length out
   pub kept : length out ≡ length before
   pub answered : Answered text (take written out) (drop used text)
+  pub fresh : used ≡ 0 → written ≡ 0
 
 pub answering-start : (text out : List ℕ) → Answering text out out 0 0
-answering-start text out = record { used-le = omega arith; written-le = omega arith; kept = refl; answered = answered-none text }
+answering-start text out = record { used-le = omega arith; written-le = omega arith; kept = refl; answered = answered-none text; fresh = λ e. refl }
 
 module _ (text before out : List ℕ) (used written : ℕ) (a : Answering text before out used written)
     (end : ℕ) (found : end ≡ used + length (upTo 10 (drop used text))) where
@@ -63,7 +65,13 @@ module _ (text before out : List ℕ) (used written : ℕ) (a : Answering text b
           answered = rw (appended .held, line-is, ← rest-is)
               (answered-then text (drop used text) (past 10 (drop used text)) (take written out) (lineText (upTo 10 (drop used text))) (a .answered)
               (answered-line (drop used text) within));
+          fresh = λ e. let z : ⊥ = omega arith in absurd z;
         }
+
+-- with room for an answer at the start, a line is answered before the room is too little
+pub answering-onward : (text before out : List ℕ) (used written : ℕ) → Answering text before out used written → length out - written < 33 → 33 ≤ length out → 0 < used
+answering-onward text before out used written a full room =
+    pos-of-ne-zero (λ e. let f = a .fresh e in let z : ⊥ = omega arith in z)
 
 -- ---- moving octets to the front
 
@@ -155,4 +163,5 @@ module _ (text : List ℕ) (have : ℕ) (fits : have ≤ length text) (r : Lines
         answered = rw (moved, take-rest) kept-answered;
         unended = λ d. rw (moved, take-rest) (without-take 10 k rest (a .unended d));
         short = kept-short (r .done) (have - r .used) k kept;
+        onward = λ d room. omega (arith, a .onward d room, kept-within, used-within text have fits r out a, length-take-le have text fits);
       }

@@ -1,10 +1,10 @@
 -- `answer_lines` meets its contract: at each turn the lines up to used are answered, and the next one ends at the newline found.
 -- Assumes nothing.
 use Prim.Native.Nat.{_-_}
-use mathlib.Core.Bool.{false≢true}
+use mathlib.Core.Bool.{true≢false, false≢true}
 use native.Mathlib.Omega.{arith}
 use lib.ListN.{length}
-use Rattle.roomsheet_lines.proofs.Buffers.{Answering, answering-start, end-le, answering-done, answering-next}
+use Rattle.roomsheet_lines.proofs.Buffers.{Answering, answering-start, end-le, answering-done, answering-next, answering-onward}
 use Rattle.roomsheet_lines.proofs.answer_lines.Statement.{statement}
 use Rattle.roomsheet_lines.proofs.answer_lines.Tie as tie
 
@@ -34,6 +34,7 @@ returns c =
       written-le = inv .written-le;
       answered = inv .answered;
       unended = λ _. answering-done _ _ _ _ _ inv _ (c .before .find-newline .ensures) (c .if1 .taken);
+      onward = λ e room. absurd (true≢false e);
     }
 
 sub-answer-line : tie.Need-sub-answer-line Inv-loop μ-loop
@@ -65,7 +66,13 @@ same-length-2 c = c .before .loop .inv .kept
 returns-2 : tie.Need-returns-2 Inv-loop μ-loop
 returns-2 c =
     let inv = c .before .loop .inv in
-    record { used-le = inv .used-le; written-le = inv .written-le; answered = inv .answered; unended = λ e. absurd (false≢true e) }
+    record {
+      used-le = inv .used-le;
+      written-le = inv .written-le;
+      answered = inv .answered;
+      unended = λ e. absurd (false≢true e);
+      onward = λ e room. answering-onward _ _ _ _ _ inv (c .loop-test .left) room;
+    }
 
 pub answer-lines-spec : {M : Type 1} → statement M
 answer-lines-spec =
