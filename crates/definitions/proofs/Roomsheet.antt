@@ -1,6 +1,7 @@
 -- Why the printed numbers read back: a number's decimal digits, highest first, write it again, and there is no needless one.
 --
 --   decimalLength-..        a number has just that many digits
+--   digits-suc              the last digits of a number, by the first of them
 --   decimal-decimalText     the text of a number reads as the number;  isNumber-decimalText: and is a number of the grammar
 -- Assumes nothing.
 use Prim.Native.Nat.{ℕ, zero, suc, _+_, _-_, _*_, _/_, _%_, _^_, _≤_, _<_}
@@ -24,7 +25,7 @@ use Rattle.definitions.proofs.Sums.{sum-cong, sum-const, every-true, le
 abbrev reached : ℕ → ℕ → ℕ
 reached n x = howMany n (λ k. leb (10 ^ suc k) x)
 
-pow-ten-positive : (k : ℕ) → 0 < 10 ^ k
+pub pow-ten-positive : (k : ℕ) → 0 < 10 ^ k
 pow-ten-positive k = one-le-pow k 10 (omega arith)
 
 reached-all : (n x : ℕ) → 10 ^ n ≤ x → reached n x ≡ n
@@ -53,10 +54,10 @@ reached-last (suc n) x h =
 -- ---- the digits write the number
 
 -- the last len digits of a number
-abbrev digits : ℕ → ℕ → Text
+abbrev pub digits : ℕ → ℕ → Text
 digits len x = tabulate len (λ i. 48 + x / 10 ^ (len - suc i) % 10)
 
-digits-suc : (len x : ℕ) → digits (suc len) x ≡ (48 + x / 10 ^ len % 10) ∷ digits len x
+pub digits-suc : (len x : ℕ) → digits (suc len) x ≡ (48 + x / 10 ^ len % 10) ∷ digits len x
 unfolding tabulate
 digits-suc len x =
     ap₂ _∷_ (ap (λ (k : ℕ). 48 + x / 10 ^ k % 10) (suc-sub-suc len 0 ∙ sub-zero len))

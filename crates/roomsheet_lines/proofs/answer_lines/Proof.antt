@@ -1,0 +1,81 @@
+-- `answer_lines` meets its contract: at each turn the lines up to used are answered, and the next one ends at the newline found.
+-- Assumes nothing.
+use Prim.Native.Nat.{_-_}
+use mathlib.Core.Bool.{true≢false, false≢true}
+use native.Mathlib.Omega.{arith}
+use lib.ListN.{length}
+use Rattle.roomsheet_lines.proofs.Buffers.{Answering, answering-start, end-le, answering-done, answering-next, answering-onward}
+use Rattle.roomsheet_lines.proofs.answer_lines.Statement.{statement}
+use Rattle.roomsheet_lines.proofs.answer_lines.Tie as tie
+
+abbrev Inv-loop : tie.InvT-loop
+Inv-loop text out₀ used₀ written₀ out used written = Answering text out₀ out used written
+
+abbrev μ-loop : tie.MeasureT-loop
+μ-loop text out₀ used₀ written₀ out used written = length text - used
+
+loop-holds : tie.Need-loop-holds Inv-loop μ-loop
+loop-holds c = answering-start _ _
+
+sub-loop : tie.Need-sub-loop Inv-loop μ-loop
+sub-loop c = c .loop .inv .written-le
+
+find-newline-requires : tie.Need-find-newline-requires Inv-loop μ-loop
+find-newline-requires c κs = c .before .loop .inv .used-le
+
+same-length : tie.Need-same-length Inv-loop μ-loop
+same-length c = c .before .before .before .loop .inv .kept
+
+returns : tie.Need-returns Inv-loop μ-loop
+returns c =
+    let inv = c .before .before .before .loop .inv in
+    record {
+      used-le = inv .used-le;
+      written-le = inv .written-le;
+      answered = inv .answered;
+      unended = λ _. answering-done _ _ _ _ _ inv _ (c .before .find-newline .ensures) (c .if1 .taken);
+      onward = λ e room. absurd (true≢false e);
+    }
+
+sub-answer-line : tie.Need-sub-answer-line Inv-loop μ-loop
+sub-answer-line c = omega (arith, c .before .find-newline .ensures)
+
+part-answer-line-start : tie.Need-part-answer-line-start Inv-loop μ-loop
+part-answer-line-start c = omega (arith, c .before .find-newline .ensures)
+
+part-answer-line-end : tie.Need-part-answer-line-end Inv-loop μ-loop
+part-answer-line-end c = end-le _ _ _ _ _ (c .before .before .before .loop .inv) _ (c .before .find-newline .ensures)
+
+answer-line-requires : tie.Need-answer-line-requires Inv-loop μ-loop
+answer-line-requires c κs = omega (arith, c .before .before .before .before .loop-test .taken, c .before .before .before .before .before .loop .inv)
+
+add-used : tie.Need-add-used Inv-loop μ-loop
+add-used c = omega (arith, end-le _ _ _ _ _ (c .before .before .before .before .before .before .before .before .loop .inv) _ (c .before .before .before .before .before .before .find-newline .ensures), c .before .before .before .before .before .before .before .before .before .before .before .good)
+
+loop-again : tie.Need-loop-again Inv-loop μ-loop
+loop-again c =
+    answering-next _ _ _ _ _ (c .before .before .before .before .before .before .before .before .loop .inv) _ (c .before .before .before .before .before .before .find-newline .ensures) (c .before .before .before .before .before .if1 .left) _ _
+    (c .before .before .answer-line .kept .1 .0) (omega (arith, c .before .before .before .before .before .before .before .loop-test .taken, c .before .before .before .before .before .before .before .before .loop .inv)) (c .before .before .answer-line .ensures)
+
+loop-less : tie.Need-loop-less Inv-loop μ-loop
+loop-less c = omega (arith, loop-again c .used-le, c .before .before .before .before .before .before .find-newline .ensures)
+
+same-length-2 : tie.Need-same-length-2 Inv-loop μ-loop
+same-length-2 c = c .before .loop .inv .kept
+
+returns-2 : tie.Need-returns-2 Inv-loop μ-loop
+returns-2 c =
+    let inv = c .before .loop .inv in
+    record {
+      used-le = inv .used-le;
+      written-le = inv .written-le;
+      answered = inv .answered;
+      unended = λ e. absurd (false≢true e);
+      onward = λ e room. answering-onward _ _ _ _ _ inv (c .loop-test .left) room;
+    }
+
+pub answer-lines-spec : {M : Type 1} → statement M
+answer-lines-spec =
+    tie.close
+    (tie.spec Inv-loop μ-loop loop-holds sub-loop find-newline-requires same-length returns sub-answer-line part-answer-line-start
+    part-answer-line-end answer-line-requires add-used loop-less loop-again same-length-2 returns-2)

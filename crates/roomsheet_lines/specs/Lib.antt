@@ -1,0 +1,4 @@
+-- What the contracts cite besides the definitions.
+pub mod Parts
+pub mod Numbers
+pub mod Texts

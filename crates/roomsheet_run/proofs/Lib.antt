@@ -1,0 +1,2 @@
+-- Laws of the input buffer.
+pub mod Reading

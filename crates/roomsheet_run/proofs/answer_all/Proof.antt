@@ -1,0 +1,67 @@
+-- `answer_all` meets its contract: each turn keeps fewer octets, until no ended line is left among them.
+-- Assumes nothing.
+use Prim.Native.Nat.{_≤_}
+use mathlib.Core.Path.{_≡_, sym, _∙_}
+use native.Mathlib.Omega.{arith}
+use lib.ListN.{length, length-take}
+use lib.Seq.{length-take-le}
+use borrow.Author.Needs.{needs}
+use Rattle.roomsheet_run.proofs.answer_all.Statement.{statement}
+use Rattle.roomsheet_run.proofs.answer_all.Tie as tie
+
+abbrev Inv-loop : tie.InvT-loop
+Inv-loop input₀ have output₀ have₀ input output have' =
+    (have' ≤ length input) × (33 ≤ length output) × (length input ≡ length input₀) × (length output ≡ length output₀)
+
+abbrev μ-loop : tie.MeasureT-loop
+μ-loop input₀ have output₀ have₀ input output have' = have'
+
+loop-holds : tie.Need-loop-holds Inv-loop μ-loop
+loop-holds c = omega arith
+
+answer-chunk-requires : tie.Need-answer-chunk-requires Inv-loop μ-loop
+answer-chunk-requires c κs = omega arith
+
+slice-reshare-prefix-write-all : tie.Need-slice-reshare-prefix-write-all Inv-loop μ-loop
+slice-reshare-prefix-write-all c = c .before .before .before .before .answer-chunk .ensures .written-le
+
+slice-aggregate-write-all : tie.Need-slice-aggregate-write-all Inv-loop μ-loop
+slice-aggregate-write-all c = sym (length-take-le _ _ (c .before .before .before .before .before .answer-chunk .ensures .written-le))
+
+write-all-requires : tie.Need-write-all-requires Inv-loop μ-loop
+write-all-requires c κs = search needs
+
+same-length : tie.Need-same-length Inv-loop μ-loop
+same-length c = c .before .before .before .before .before .before .before .answer-chunk .kept .0 ∙ c .before .before .before .before .before .before .before .before .before .before .loop .inv .2
+
+same-length-2 : tie.Need-same-length-2 Inv-loop μ-loop
+same-length-2 c = c .before .before .before .before .before .before .before .answer-chunk .kept .1 .1 .0 ∙ c .before .before .before .before .before .before .before .before .before .before .loop .inv .3
+
+returns : tie.Need-returns Inv-loop μ-loop
+returns c =
+    let told = c .before .before .before .before .before .before .before .answer-chunk .ensures in
+    let l = c .before .before .before .before .before .before .before .before .before .before .loop in
+    record {
+      within = omega (arith, told .kept-le, length-take (l .have) (l .input), c .before .before .before .before .before .before .before .answer-chunk .kept .0);
+      short = told .short (c .if1 .taken);
+      unended = told .unended (c .if1 .taken);
+    }
+
+loop-again : tie.Need-loop-again Inv-loop μ-loop
+loop-again c =
+    let told = c .before .before .before .before .before .before .before .answer-chunk .ensures in
+    let l = c .before .before .before .before .before .before .before .before .before .before .loop in
+    let input = c .before .before .before .before .before .before .before .answer-chunk .kept .0 in
+    let output = c .before .before .before .before .before .before .before .answer-chunk .kept .1 .1 .0 in
+    (omega (arith, told .kept-le, length-take (l .have) (l .input), input), omega (arith, output, l .inv .1), input ∙ l .inv .2, output ∙ l .inv .3)
+
+loop-less : tie.Need-loop-less Inv-loop μ-loop
+loop-less c =
+    let l = c .before .before .before .before .before .before .before .before .before .before .loop in
+    omega (arith, c .before .before .before .before .before .before .before .answer-chunk .ensures .onward (c .if1 .left) (loop-again c .1), length-take (l .have) (l .input))
+
+pub answer-all-spec : {M : Type 1} → statement M
+answer-all-spec =
+    tie.close
+    (tie.spec Inv-loop μ-loop loop-holds answer-chunk-requires slice-reshare-prefix-write-all slice-aggregate-write-all write-all-requires
+    same-length same-length-2 returns loop-less loop-again)
