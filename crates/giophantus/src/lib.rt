@@ -108,17 +108,13 @@ pub extern "C" fn giophantus_add(
 ) -> u32
     ensures { λ r. ⌜ _≡_ {A = AddExit} (record { refusal = r; sum = now (sum .exit) }) (addExit (set l q n dx dr mlen) (now (a .entry)) (now (b .entry)) (now (sum .entry))) ⌝ }
 {
-    addition::add(
-        Parameters {
-            l,
-            q,
-            n,
-            dx,
-            dr,
-            mlen,
-        },
-        a,
-        b,
-        sum,
-    )
+    let p = Parameters {
+        l,
+        q,
+        n,
+        dx,
+        dr,
+        mlen,
+    };
+    addition::add(p, a, b, sum)
 }
