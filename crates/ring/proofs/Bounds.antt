@@ -1,12 +1,12 @@
 -- Bounds of products and of their sums: what makes each step of a product fit its word.
 -- Assumes nothing.
-use Prim.Native.Nat.{ℕ, _+_, _*_, _%_, _/_, _≤_, _<_}
-use native.Mathlib.Nat.{mul-le-mul, le-trans}
+use Prim.Native.Nat.{ℕ, _+_, _-_, _*_, _%_, _/_, _≤_, _<_}
+use native.Mathlib.Nat.{sub-zero, mod-self, mul-le-mul, le-trans}
 use native.Mathlib.Omega.{arith}
-use mathlib.Core.Path.{_≡_}
+use mathlib.Core.Path.{_≡_, sym}
 use lib.Dec.{lit≤}
 use Rattle.definitions.proofs.Congruence.{cong-refl, cong-mod, cong-add, cong-scale}
-use Rattle.ring.specs.Work.{Halves}
+use Rattle.ring.specs.Rows.{Halves}
 
 pub product-le : {a b : ℕ} (p : ℕ) → a < 2147483648 → b ≤ p → a * b ≤ 2147483647 * p
 product-le {a} p h l = let x : a ≤ 2147483647 = omega arith in mul-le-mul x l
@@ -48,3 +48,6 @@ pub folded-cong : (q high low x : ℕ) → (high * (4398046511104 % q) + low + x
 folded-cong q high low x =
     let e : low + 4398046511104 * high + x ≡ high * 4398046511104 + low + x = omega arith in
     rw e (cong-add (cong-add (cong-scale high (cong-mod q 4398046511104)) (cong-refl {x = low})) (cong-refl {x = x}) .same)
+
+pub negated-zero : {a : ℕ} (q : ℕ) → a ≡ 0 → 0 ≡ (q - a) % q
+negated-zero q e = rw (e, sub-zero) (sym (mod-self q))

@@ -13,7 +13,8 @@ use Rattle.definitions.specs.Sequences.{sum, tabulate}
 use Rattle.definitions.specs.Ring.{Element, InRing, elementOf, conv}
 use Rattle.definitions.proofs.Sums.{sum-cong, sum-append, sum-zero, tabulate-cong}
 use Rattle.definitions.proofs.Ring.{conv-at}
-use Rattle.ring.specs.Work.{part, written, padded, factorsFrom, rowTerm, rowSum, fourRows, Halves}
+use Rattle.ring.specs.Work.{part, written}
+use Rattle.ring.specs.Rows.{padded, factorsFrom, rowTerm, rowSum, fourRows, added, Halves}
 use Rattle.ring.proofs.Work.{part-written, getD-written-before, getD-written-front, length-written-tabulate}
 use Rattle.ring.proofs.Bounds.{product-le, Summed, summed-none, summed-more, summed-halves, SmallSummed, small-halves}
 
@@ -81,8 +82,8 @@ zeros-below m h g k l = rw (zeros-at m h l) g
 
 pub rows-more : (n : ℕ) (a : Element) (twice low high : List ℕ) {i : ℕ} {low′ high′ : List ℕ} →
     InRing 2147483648 n a → InRing 2147483648 (n + n) (elementOf twice) → i < n →
-    low′ ≡ written 0 (tabulate n (λ k. getD low k 0 + fourRows n a twice i k % 4398046511104)) low →
-    high′ ≡ written 0 (tabulate n (λ k. getD high k 0 + fourRows n a twice i k / 4398046511104)) high →
+    low′ ≡ added n (λ k. fourRows n a twice i k % 4398046511104) low →
+    high′ ≡ added n (λ k. fourRows n a twice i k / 4398046511104) high →
     Rows n a twice i low high → Rows n a twice (i + 4) low′ high′
 rows-more n a twice low high {i} h g l d e r k s =
     rw (d, e, getD-written-front n (λ j. getD low j 0 + fourRows n a twice i j % 4398046511104) low s, getD-written-front n (λ j. getD high j 0 + fourRows n a twice i j / 4398046511104) high s, sum-four-rows n a twice i k)
@@ -101,7 +102,7 @@ small-rows-none n a twice low h k l = record { whole = omega (arith, h k l); bou
 
 pub small-rows-more : (n : ℕ) (a : Element) (twice low : List ℕ) {i : ℕ} {low′ : List ℕ} →
     InRing 2147483648 n a → InRing 16 (n + n) (elementOf twice) → i < n →
-    low′ ≡ written 0 (tabulate n (λ k. getD low k 0 + fourRows n a twice i k)) low →
+    low′ ≡ added n (fourRows n a twice i) low →
     SmallRows n a twice i low → SmallRows n a twice (i + 4) low′
 small-rows-more n a twice low {i} h g l d r k s =
     let small = four-rows-le n a twice 15 {i = i} h (λ m x. le-of-suc-le-suc (g m x)) l s in

@@ -3,22 +3,16 @@
 --   part             the element that stands at an offset
 --   written          the words with a list written over them from an offset on; all others as they were
 --   Apart            two parts of n words have no word in common
---   padded           an element followed by zeros: the factors of the rows past the last
---   rowTerm          what row i of a product a × b adds at place k, read from a list in which b stands twice in a row
---   factorsFrom      the factors of the four rows from i on
---   rowSum           what four rows from i on add at place k, with given factors; fourRows: with those of an element
---   Halves           a number cut at 2^42: low + 2^42 × high, both small enough to be put together again below 2^64
---
+--   productAdded     c := a × b + c in R_q, the three given by their offsets
+--   scaledAdded      c := c + l × e in R_q
+--   negated          a := -a in R_q
 -- Assumes nothing.
-use Prim.Native.Nat.{ℕ, _+_, _-_, _*_, _≤_, _<_}
-use mathlib.Core.Path.{_≡_}
+use Prim.Native.Nat.{ℕ, _+_, _-_, _*_, _%_, _≤_}
 use mathlib.Core.Logic.{_⊎_}
-use mathlib.Core.Bool.{cond}
 use mathlib.Core.List.{List, _++_}
-use lib.Dec.{ltb}
 use lib.ListN.{getD, take, drop, length}
-use Rattle.definitions.specs.Ring.{Element}
-use Rattle.ring.specs.declared.Factors.{Factors}
+use Rattle.definitions.specs.Sequences.{tabulate}
+use Rattle.definitions.specs.Ring.{Element, conv}
 
 abbrev pub part : List ℕ → ℕ → Element
 part work at k = getD work (at + k) 0
@@ -29,26 +23,11 @@ written at new old = take at old ++ (new ++ drop (at + length new) old)
 abbrev pub Apart : ℕ → ℕ → ℕ → Type 0
 Apart a b n = (a + n ≤ b) ⊎ (b + n ≤ a)
 
-unfoldable pub padded : ℕ → Element → Element
-padded n a i = cond (ltb i n) (a i) 0
+abbrev pub productAdded : ℕ → ℕ → ℕ → ℕ → ℕ → List ℕ → List ℕ
+productAdded n q a b c work = written c (tabulate n (λ k. (conv n (part work a) (part work b) k + part work c k) % q)) work
 
-unfoldable pub rowTerm : ℕ → Element → List ℕ → ℕ → ℕ → ℕ
-rowTerm n a twice k i = padded n a i * getD twice (n - i + k) 0
+abbrev pub scaledAdded : ℕ → ℕ → ℕ → ℕ → ℕ → List ℕ → List ℕ
+scaledAdded n q l e c work = written c (tabulate n (λ k. (part work c k + l * part work e k) % q)) work
 
-unfoldable pub factorsFrom : ℕ → Element → ℕ → Factors
-factorsFrom n a i = record { a0 = padded n a i; a1 = padded n a (i + 1); a2 = padded n a (i + 2); a3 = padded n a (i + 3) }
-
-unfoldable pub rowSum : Factors → ℕ → List ℕ → ℕ → ℕ → ℕ
-rowSum f n twice i k =
-    f .a0 * getD twice (n - i + k) 0
-    + f .a1 * getD twice (n - (i + 1) + k) 0
-    + f .a2 * getD twice (n - (i + 2) + k) 0
-    + f .a3 * getD twice (n - (i + 3) + k) 0
-
-abbrev pub fourRows : ℕ → Element → List ℕ → ℕ → ℕ → ℕ
-fourRows n a twice i k = rowSum (factorsFrom n a i) n twice i k
-
-pub record Halves (total low high : ℕ) : Type 0 where
-  pub whole : low + 4398046511104 * high ≡ total
-  pub low-small : low < 18014398509481984
-  pub high-small : high < 6442450944
+abbrev pub negated : ℕ → ℕ → ℕ → List ℕ → List ℕ
+negated n q a work = written a (tabulate n (λ k. (q - part work a k) % q)) work

@@ -1,10 +1,14 @@
-// Sums and products in R_q, over the work words (01, "Ring, monomials, octets"): elements stand in one slice, each at an offset.
+// Sums and products in R_q over the work words (01, "Ring, monomials, octets"): elements stand in one slice, each from an offset on.
+// A product is summed by rows, four at a time, in 64 bits; the sums are cut at 2^42, so that one reduction at the end is enough.
+// Nothing is refused: callers keep parts within the words and coefficients below q. Contracts cite specs/Work.antt; those of the
+// steps of a product also specs/Rows.antt.
 ghost use mathlib.Core.Path.{_≡_};
 ghost use Prim.Native.Nat.{ℕ, _+_, _-_, _*_, _%_, _/_, _<_, _≤_};
 ghost use lib.ListN.{length, getD, replicate};
 ghost use Rattle.definitions.specs.Sequences.{sum, tabulate};
-ghost use Rattle.definitions.specs.Ring.{scale, conv, InRing, elementOf};
-ghost use Rattle.ring.specs.Work.{part, written, Apart, padded, factorsFrom, rowTerm, rowSum, fourRows, Halves};
+ghost use Rattle.definitions.specs.Ring.{scale, InRing, elementOf};
+ghost use Rattle.ring.specs.Work.{part, written, Apart, productAdded, scaledAdded, negated};
+ghost use Rattle.ring.specs.Rows.{padded, factorsFrom, rowTerm, rowSum, fourRows, added, Halves};
 
 // Where a sum of four products is cut into a low and a high half: 2^42.
 const CUT: u64 = 4398046511104;
@@ -18,13 +22,14 @@ pub fn sum(a: u32, b: u32, q: u32) -> u32
     if s < q { s } else { s - q }
 }
 
-// n - i, or 0 past n.
+// Where row i starts in b written twice; 0 past the last row.
 fn row_start(n: usize, i: usize) -> usize
     ensures { λ r. ⌜ r ≡ n - i ⌝ }
 {
     if i < n { n - i } else { 0 }
 }
 
+// The factor of row i; 0 past the last row.
 fn factor(work: &[u32], a: usize, n: usize, i: usize) -> u32
     requires { ⌜ a + n ≤ length (now work) ⌝ }
     ensures { λ r. ⌜ r ≡ padded n (part (now (work .entry)) a) i ⌝ }
@@ -32,6 +37,7 @@ fn factor(work: &[u32], a: usize, n: usize, i: usize) -> u32
     if i < n { work[a + i] } else { 0 }
 }
 
+// The element at from, written to a list of its own.
 fn copy(to: &mut [u64], at: usize, work: &[u32], from: usize, n: usize)
     requires { ⌜ (at + n ≤ length (now to)) × (from + n ≤ length (now work)) ⌝ }
     ensures { λ _. ⌜ now (to .exit) ≡ written at (tabulate n (part (now (work .entry)) from)) (now (to .entry)) ⌝ }
@@ -60,6 +66,7 @@ struct Factors {
     a3: u32,
 }
 
+// Those of the rows from i on.
 fn factors_from(work: &[u32], a: usize, n: usize, i: usize) -> Factors
     requires { ⌜ (a + n ≤ length (now work)) × (i < n) ⌝ }
     ensures { λ r. ⌜ r ≡ factorsFrom n (part (now (work .entry)) a) i ⌝ }
@@ -103,6 +110,7 @@ fn row_sum(f: Factors, twice: &[u64], n: usize, i: usize, k: usize) -> u64
     )
 }
 
+// Four rows added at every place, their sum cut.
 fn add_rows(
     low: &mut [u64],
     high: &mut [u64],
@@ -115,8 +123,8 @@ fn add_rows(
     requires { ⌜ (a + n ≤ length (now work)) × (n ≤ length (now low)) × (n ≤ length (now high)) × (n + n ≤ length (now twice)) × (i < n) ⌝ }
     requires { ⌜ InRing 2147483648 n (part (now work) a) × InRing 2147483648 (n + n) (elementOf (now twice)) ⌝ }
     requires { ⌜ InRing 9223372036854775808 n (elementOf (now low)) × InRing 9223372036854775808 n (elementOf (now high)) ⌝ }
-    ensures { λ _. ⌜ now (low .exit) ≡ written 0 (tabulate n (λ k. getD (now (low .entry)) k 0 + fourRows n (part (now (work .entry)) a) (now (twice .entry)) i k % 4398046511104)) (now (low .entry)) ⌝ }
-    ensures { λ _. ⌜ now (high .exit) ≡ written 0 (tabulate n (λ k. getD (now (high .entry)) k 0 + fourRows n (part (now (work .entry)) a) (now (twice .entry)) i k / 4398046511104)) (now (high .entry)) ⌝ }
+    ensures { λ _. ⌜ now (low .exit) ≡ added n (λ k. fourRows n (part (now (work .entry)) a) (now (twice .entry)) i k % 4398046511104) (now (low .entry)) ⌝ }
+    ensures { λ _. ⌜ now (high .exit) ≡ added n (λ k. fourRows n (part (now (work .entry)) a) (now (twice .entry)) i k / 4398046511104) (now (high .entry)) ⌝ }
 {
     let f = factors_from(work, a, n, i);
     let mut k = 0;
@@ -128,7 +136,7 @@ fn add_rows(
     }
 }
 
-// All rows, from sums that are 0.
+// All rows, four at a time, to sums that are 0.
 fn all_rows(low: &mut [u64], high: &mut [u64], work: &[u32], a: usize, twice: &[u64], n: usize)
     requires { ⌜ (a + n ≤ length (now work)) × (n ≤ length (now low)) × (n ≤ length (now high)) × (n + n ≤ length (now twice)) × (n ≤ 4096) ⌝ }
     requires { ⌜ InRing 2147483648 n (part (now work) a) × InRing 2147483648 (n + n) (elementOf (now twice)) ⌝ }
@@ -169,7 +177,7 @@ fn reduce(work: &mut [u32], c: usize, n: usize, q: u32, low: &[u64], high: &[u64
 pub fn multiply_add(work: &mut [u32], a: usize, b: usize, c: usize, n: usize, q: u32)
     requires { ⌜ (a + n ≤ length (now work)) × (b + n ≤ length (now work)) × (c + n ≤ length (now work)) × (n ≤ 4096) × (0 < q) × (q < 2147483648) ⌝ }
     requires { ⌜ InRing q n (part (now work) a) × InRing q n (part (now work) b) ⌝ }
-    ensures { λ _. ⌜ now (work .exit) ≡ written c (tabulate n (λ k. (conv n (part (now (work .entry)) a) (part (now (work .entry)) b) k + part (now (work .entry)) c k) % q)) (now (work .entry)) ⌝ }
+    ensures { λ _. ⌜ now (work .exit) ≡ productAdded n q a b c (now (work .entry)) ⌝ }
 {
     let mut twice = [0u64; 8192];
     copy_twice(&mut twice, work, b, n);
@@ -179,11 +187,11 @@ pub fn multiply_add(work: &mut [u32], a: usize, b: usize, c: usize, n: usize, q:
     reduce(work, c, n, q, &low, &high);
 }
 
-// The same rows where the other factor is small: one sum, not cut.
+// Four rows added at every place where the other factor is small: the sum is not cut.
 fn add_small_rows(low: &mut [u64], work: &[u32], a: usize, twice: &[u64], n: usize, i: usize)
     requires { ⌜ (a + n ≤ length (now work)) × (n ≤ length (now low)) × (n + n ≤ length (now twice)) × (i < n) ⌝ }
     requires { ⌜ InRing 2147483648 n (part (now work) a) × InRing 16 (n + n) (elementOf (now twice)) × InRing 18014398509481984 n (elementOf (now low)) ⌝ }
-    ensures { λ _. ⌜ now (low .exit) ≡ written 0 (tabulate n (λ k. getD (now (low .entry)) k 0 + fourRows n (part (now (work .entry)) a) (now (twice .entry)) i k)) (now (low .entry)) ⌝ }
+    ensures { λ _. ⌜ now (low .exit) ≡ added n (fourRows n (part (now (work .entry)) a) (now (twice .entry)) i) (now (low .entry)) ⌝ }
 {
     let f = factors_from(work, a, n, i);
     let mut k = 0;
@@ -193,6 +201,7 @@ fn add_small_rows(low: &mut [u64], work: &[u32], a: usize, twice: &[u64], n: usi
     }
 }
 
+// All rows where the other factor is small.
 fn all_small_rows(low: &mut [u64], work: &[u32], a: usize, twice: &[u64], n: usize)
     requires { ⌜ (a + n ≤ length (now work)) × (n ≤ length (now low)) × (n + n ≤ length (now twice)) × (n ≤ 4096) ⌝ }
     requires { ⌜ InRing 2147483648 n (part (now work) a) × InRing 16 (n + n) (elementOf (now twice)) × InRing 1 n (elementOf (now low)) ⌝ }
@@ -209,7 +218,7 @@ fn all_small_rows(low: &mut [u64], work: &[u32], a: usize, twice: &[u64], n: usi
 pub fn multiply_add_small(work: &mut [u32], a: usize, b: usize, c: usize, n: usize, q: u32)
     requires { ⌜ (a + n ≤ length (now work)) × (b + n ≤ length (now work)) × (c + n ≤ length (now work)) × (n ≤ 4096) × (0 < q) × (q < 2147483648) ⌝ }
     requires { ⌜ InRing q n (part (now work) a) × InRing 16 n (part (now work) b) ⌝ }
-    ensures { λ _. ⌜ now (work .exit) ≡ written c (tabulate n (λ k. (conv n (part (now (work .entry)) a) (part (now (work .entry)) b) k + part (now (work .entry)) c k) % q)) (now (work .entry)) ⌝ }
+    ensures { λ _. ⌜ now (work .exit) ≡ productAdded n q a b c (now (work .entry)) ⌝ }
 {
     let mut twice = [0u64; 8192];
     copy_twice(&mut twice, work, b, n);
@@ -223,7 +232,7 @@ pub fn multiply_add_small(work: &mut [u32], a: usize, b: usize, c: usize, n: usi
 pub fn add_scaled(work: &mut [u32], c: usize, e: usize, l: u32, n: usize, q: u32)
     requires { ⌜ (c + n ≤ length (now work)) × (e + n ≤ length (now work)) × Apart c e n × (q < 2147483648) ⌝ }
     requires { ⌜ InRing q n (part (now work) c) × InRing q n (scale l (part (now work) e)) ⌝ }
-    ensures { λ _. ⌜ now (work .exit) ≡ written c (tabulate n (λ k. (part (now (work .entry)) c k + l * part (now (work .entry)) e k) % q)) (now (work .entry)) ⌝ }
+    ensures { λ _. ⌜ now (work .exit) ≡ scaledAdded n q l e c (now (work .entry)) ⌝ }
 {
     let mut k = 0;
     while k < n {
@@ -243,7 +252,7 @@ fn negative(a: u32, q: u32) -> u32
 // In place a := -a in R_q.
 pub fn negate(work: &mut [u32], a: usize, n: usize, q: u32)
     requires { ⌜ (a + n ≤ length (now work)) × InRing q n (part (now work) a) ⌝ }
-    ensures { λ _. ⌜ now (work .exit) ≡ written a (tabulate n (λ k. (q - part (now (work .entry)) a k) % q)) (now (work .entry)) ⌝ }
+    ensures { λ _. ⌜ now (work .exit) ≡ negated n q a (now (work .entry)) ⌝ }
 {
     let mut k = 0;
     while k < n {
@@ -256,8 +265,9 @@ pub fn negate(work: &mut [u32], a: usize, n: usize, q: u32)
 pub fn clear(work: &mut [u32])
     ensures { λ _. ⌜ now (work .exit) ≡ replicate (length (now (work .entry))) 0 ⌝ }
 {
+    let end = work.len();
     let mut k = 0;
-    while k < work.len() {
+    while k < end {
         work[k] = 0;
         k += 1;
     }

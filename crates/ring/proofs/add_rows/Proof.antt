@@ -6,7 +6,8 @@ use native.Mathlib.Nat.{zero-add}
 use mathlib.Core.Path.{_≡_, sym, ap, ap₂, _∙_}
 use lib.ListN.{getD}
 use lib.Dec.{lit<}
-use Rattle.ring.specs.Work.{part, rowSum, fourRows}
+use Rattle.ring.specs.Work.{part}
+use Rattle.ring.specs.Rows.{rowSum, fourRows}
 use Rattle.ring.specs.declared.Factors.{Factors}
 use Rattle.ring.proofs.Work.{Writing, writing-none, writing-more, writing-ahead, writing-all}
 use Rattle.ring.proofs.Rows.{factors-below}

@@ -4,7 +4,8 @@ use native.Mathlib.Omega.{arith}
 use Prim.Native.Nat.{ℕ, _+_, _-_, _<_}
 use mathlib.Core.Path.{_≡_, refl}
 use lib.ListN.{length, getD}
-use Rattle.ring.specs.Work.{part, Halves}
+use Rattle.ring.specs.Work.{part}
+use Rattle.ring.specs.Rows.{Halves}
 use Rattle.ring.proofs.Bounds.{summed-halves}
 use Rattle.ring.proofs.Rows.{Rows, rows-none, rows-more, rows-all}
 use Rattle.ring.proofs.all_rows.Statement.{statement}

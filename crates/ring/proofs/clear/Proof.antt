@@ -11,10 +11,10 @@ use Rattle.ring.proofs.clear.Statement.{statement}
 use Rattle.ring.proofs.clear.Tie as tie
 
 abbrev Inv-loop : tie.InvT-loop
-Inv-loop work₀ k₀ work k = (k ≤ length work₀) × (length work ≡ length work₀) × (work ≡ replicate k 0 ++ drop k work₀)
+Inv-loop work₀ end k₀ work k = (k ≤ end) × (length work ≡ length work₀) × (work ≡ replicate k 0 ++ drop k work₀)
 
 abbrev μ-loop : tie.MeasureT-loop
-μ-loop work₀ k₀ work k = length work₀ - k
+μ-loop work₀ end k₀ work k = end - k
 
 loop-holds : tie.Need-loop-holds Inv-loop μ-loop
 loop-holds c = (omega arith, refl, fill-none _ 0)

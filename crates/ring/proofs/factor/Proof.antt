@@ -2,7 +2,7 @@
 -- Assumes nothing.
 use borrow.Author.Needs.{needs}
 use borrow.Author.Tests.{lt-ltb, le-ltb}
-use Rattle.ring.specs.Work.{padded}
+use Rattle.ring.specs.Rows.{padded}
 use Rattle.ring.proofs.factor.Statement.{statement}
 use Rattle.ring.proofs.factor.Tie as tie
 

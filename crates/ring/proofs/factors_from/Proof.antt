@@ -1,7 +1,7 @@
 -- `ring::factors_from` meets its contract: each factor is `factor` at its row.
 -- Assumes nothing.
 use borrow.Author.Needs.{needs}
-use Rattle.ring.specs.Work.{factorsFrom}
+use Rattle.ring.specs.Rows.{factorsFrom}
 use Rattle.ring.proofs.factors_from.Statement.{statement}
 use Rattle.ring.proofs.factors_from.Tie as tie
 

@@ -3,7 +3,7 @@
 use native.Mathlib.Omega.{arith}
 use borrow.Author.Needs.{needs}
 use Prim.Native.Nat.{_+_}
-use Rattle.ring.specs.Work.{rowSum}
+use Rattle.ring.specs.Rows.{rowSum}
 use Rattle.ring.proofs.row_sum.Statement.{statement}
 use Rattle.ring.proofs.row_sum.Tie as tie
 
