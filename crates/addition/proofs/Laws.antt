@@ -20,19 +20,12 @@ use Rattle.definitions.specs.Octets.{coefficientAt, decoded, encoded, coefficie
 use Rattle.definitions.specs.Calls.{decodedElements, polynomialFrom, octetsFrom, elementsFit, sumModulo, addAnswer, addLeaves, addExit}
 use Rattle.definitions.specs.Demand3.{AcceptedSet}
 use Rattle.definitions.proofs.Sums.{length-tabulate, getD-tabulate, tabulate-cong}
-use Rattle.definitions.proofs.Octets.{length-decoded, getD-decoded, coefficientsFit-below}
+use Rattle.definitions.proofs.Elements.{polynomialFrom-at}
 use Rattle.definitions.proofs.Refusals.{firstRefusal-applies, firstRefusal-last}
-use Rattle.definitions.proofs.Parameters.{accepted-set, modulus-positive, modulus-word, qlen-least, qlen-most}
+use Rattle.definitions.proofs.Parameters.{accepted-set, elementsLength-count, modulus-positive, modulus-word, qlen-least, qlen-most}
 use Rattle.octets.proofs.Laws.{stored, encode-step, encode-end}
 use Rattle.addition.specs.Sums.{Judged, coefficientSums}
-use Rattle.addition.proofs.Exits.{exit-set, exit-length, exit-refused, exit-accepted}
-use Rattle.addition.proofs.Judged.{elementsLength-count}
-
--- a judged coefficient is below q
-pub coefficientsFit-at : (q len count : ℕ) (octets : List ℕ) → coefficientsFit q (decoded len count octets) ≡ true → {m : ℕ} → m < count
-    → coefficientAt len octets m < q
-coefficientsFit-at q len count octets e {m} l =
-    rw (getD-decoded len count octets l) at (coefficientsFit-below q (decoded len count octets) e m (rw (length-decoded len count octets) l))
+use Rattle.definitions.proofs.Exits.{exit-set, exit-length, exit-refused, exit-accepted}
 
 module _ (q len count : ℕ) (a b : List ℕ) where
   pub coefficientSums-length : length (coefficientSums q len count a b) ≡ count
@@ -57,21 +50,15 @@ module _ (q len count : ℕ) (a b : List ℕ) where
   coefficientSums-end m l end exact e =
       encode-end m len (coefficientSums q len count a b) l (coefficientSums-length ∙ end) (rw coefficientSums-length exact) e
 
-module _ (p : Parameters) (d : ℕ) where
-  -- the coefficient at place m of the octets, as that of its element
-  pub polynomialFrom-at : (octets : List ℕ) {m : ℕ} → m < monomialCount d * p .n
-      → polynomialFrom p d octets (m / p .n) (m % p .n) ≡ coefficientAt (qlen (p .q)) octets m
-  unfolding polynomialFrom polynomialOf decodedElements
-  polynomialFrom-at octets {m} l = rw (div-add-mod' m (p .n)) (getD-decoded (qlen (p .q)) (monomialCount d * p .n) octets l)
-
-  pub coefficientSums-octetsFrom : (a b : List ℕ)
-      → encoded (qlen (p .q)) (coefficientSums (p .q) (qlen (p .q)) (monomialCount d * p .n) a b)
-      ≡ octetsFrom p d (sumModulo p (polynomialFrom p d a) (polynomialFrom p d b))
-  unfolding octetsFrom coefficientsOf coefficientSums sumModulo modulo sumOf add
-  coefficientSums-octetsFrom a b =
-      ap (encoded (qlen (p .q)))
-      (tabulate-cong (monomialCount d * p .n) (λ m l.
-      ap₂ (λ (x y : ℕ). (x + y) % p .q) (sym (polynomialFrom-at a l)) (sym (polynomialFrom-at b l))))
+-- it is the sum of the two polynomials
+coefficientSums-octetsFrom : (p : Parameters) (d : ℕ) (a b : List ℕ)
+    → encoded (qlen (p .q)) (coefficientSums (p .q) (qlen (p .q)) (monomialCount d * p .n) a b)
+    ≡ octetsFrom p d (sumModulo p (polynomialFrom p d a) (polynomialFrom p d b))
+unfolding octetsFrom coefficientsOf coefficientSums sumModulo modulo sumOf add
+coefficientSums-octetsFrom p d a b =
+    ap (encoded (qlen (p .q)))
+    (tabulate-cong (monomialCount d * p .n) (λ m l.
+    ap₂ (λ (x y : ℕ). (x + y) % p .q) (sym (polynomialFrom-at p d a l)) (sym (polynomialFrom-at p d b l))))
 
 -- ---- what each return leaves
 

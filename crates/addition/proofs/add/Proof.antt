@@ -7,10 +7,9 @@ use borrow.Author.Needs.{needs}
 use Rattle.definitions.specs.Parameters.{degree, monomialCount, ciphertextLength}
 use Rattle.definitions.specs.Calls.{elementsFit}
 use Rattle.definitions.specs.Demand3.{AcceptedSet}
-use Rattle.definitions.proofs.Parameters.{accepted-set, modulus-positive, modulus-word, qlen-least, qlen-most}
+use Rattle.definitions.proofs.Parameters.{accepted-set, key-degree-most, mask-degree-most, modulus-positive, modulus-word, qlen-least, qlen-most}
 use Rattle.parameters.specs.Answers.{setFrom}
-use Rattle.addition.proofs.Exits.{key-degree-most, mask-degree-most}
-use Rattle.addition.proofs.Judged.{judged-fits, judged-refused}
+use Rattle.octets.proofs.Judged.{judged-fits, judged-refused}
 use Rattle.addition.proofs.Laws.{Exact, add-set, add-a-length, add-b-length, add-sum-length, add-a-refused, add-b-refused, add-judged, add-accepted, ciphertextLength-count}
 use Rattle.addition.proofs.add.Statement.{statement}
 use Rattle.addition.proofs.add.Tie as tie
