@@ -1,4 +1,3 @@
 -- Laws that the proofs cite.
-pub mod Exits
-pub mod Judged
-pub mod Laws
+pub mod Sums
+pub mod Returns

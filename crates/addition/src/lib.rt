@@ -4,7 +4,7 @@
 // coefficients is ring::sum alone.
 ghost use mathlib.Core.Path.{_≡_};
 ghost use Rattle.definitions.specs.Octets.{encoded};
-ghost use Rattle.definitions.specs.Calls.{AddExit, addExit};
+ghost use Rattle.definitions.specs.Calls.{addExit};
 ghost use Rattle.parameters.specs.Answers.{setFrom};
 ghost use Rattle.addition.specs.Sums.{Judged, coefficientSums};
 use parameters::Parameters;
@@ -47,7 +47,7 @@ fn add_octets(a: &[u8], b: &[u8], count: usize, qlen: usize, q: u32, sum: &mut [
 }
 
 pub fn add(p: Parameters, a: &[u8], b: &[u8], sum: &mut [u8]) -> u32
-    ensures { λ r. ⌜ _≡_ {A = AddExit} (record { refusal = r; sum = now (sum .exit) }) (addExit (setFrom p) (now (a .entry)) (now (b .entry)) (now (sum .entry))) ⌝ }
+    ensures { λ r. ⌜ record { refusal = r; sum = now (sum .exit) } ≡ addExit (setFrom p) (now (a .entry)) (now (b .entry)) (now (sum .entry)) ⌝ }
 {
     let refused = parameters::refusal(p);
     if refused != 0 {

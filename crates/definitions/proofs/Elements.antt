@@ -2,23 +2,24 @@
 --
 --   InRings               every coefficient of so many elements below q
 --   coefficientsOf-..     the coefficients of a polynomial, end to end
+--   polynomialFrom-at     the coefficient at a place of the octets
 --   octetsFrom-..         the octets of a polynomial: their length, that they fit, and what they read back as
 -- Assumes nothing.
 use Prim.Native.Nat.{ℕ, _*_, _/_, _%_, _<_}
 use mathlib.Core.Path.{_≡_, ap, ap₂, _∙_}
 use mathlib.Core.Bool.{true}
 use mathlib.Core.List.{List}
-use native.Mathlib.Nat.{mod-lt, lt-trans, div-lt-iff-lt-mul}
+use native.Mathlib.Nat.{mod-lt, lt-trans, div-lt-iff-lt-mul, div-add-mod'}
 use native.Mathlib.Omega.{arith}
 use lib.Arith.{digits-lt, digits-div, digits-mod}
 use lib.ListN.{length}
 use Rattle.definitions.specs.Parameters.{Parameters, qlen, monomialCount, elementsLength}
 use Rattle.definitions.specs.Ring.{InRing}
 use Rattle.definitions.specs.Monomials.{Polynomial, polynomialOf, coefficientsOf}
-use Rattle.definitions.specs.Octets.{encoded}
+use Rattle.definitions.specs.Octets.{coefficientAt, encoded}
 use Rattle.definitions.specs.Calls.{decodedElements, polynomialFrom, octetsFrom, elementsFit}
 use Rattle.definitions.proofs.Sums.{length-tabulate, getD-tabulate}
-use Rattle.definitions.proofs.Octets.{AllBelow, length-encoded, decoded-encoded, coefficientsFit-true}
+use Rattle.definitions.proofs.Octets.{AllBelow, length-encoded, getD-decoded, decoded-encoded, coefficientsFit-true}
 use Rattle.definitions.proofs.Parameters.{Accepted, modulus-word, qlen-holds}
 
 abbrev pub InRings : ℕ → ℕ → ℕ → Polynomial → Type 0
@@ -40,6 +41,12 @@ pub polynomialOf-coefficientsOf : (n elements : ℕ) (f : Polynomial) {i k : ℕ
 unfolding polynomialOf coefficientsOf
 polynomialOf-coefficientsOf n elements f {i} {k} l s =
     getD-tabulate (elements * n) (λ m. f (m / n) (m % n)) 0 (digits-lt l s) ∙ ap₂ f (digits-div i s) (digits-mod i s)
+
+-- the coefficient at place m of the octets is one of its element
+pub polynomialFrom-at : (p : Parameters) (d : ℕ) (octets : List ℕ) {m : ℕ} → m < monomialCount d * p .n
+    → polynomialFrom p d octets (m / p .n) (m % p .n) ≡ coefficientAt (qlen (p .q)) octets m
+unfolding polynomialFrom polynomialOf decodedElements
+polynomialFrom-at p d octets {m} l = rw (div-add-mod' m (p .n)) (getD-decoded (qlen (p .q)) (monomialCount d * p .n) octets l)
 
 module _ (p : Parameters) (a : Accepted p) where
   -- the octets of so many coefficients below q read back as those coefficients

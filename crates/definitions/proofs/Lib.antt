@@ -17,6 +17,7 @@ pub mod Roomsheet
 pub mod Elements
 pub mod Small
 pub mod Calls
+pub mod Exits
 pub mod Represents
 pub mod Decryption
 pub mod Zeros

@@ -219,6 +219,12 @@ pub coefficientsFit-below : (q : ℕ) (xs : List ℕ) → coefficientsFit q xs �
 unfolding coefficientsFit
 coefficientsFit-below q xs e i l = ltb-true (getD xs i 0) q (every-at (length xs) (λ m. ltb (getD xs m 0) q) e l)
 
+-- the coefficient at a place of octets that passed the test
+pub coefficientsFit-at : (q qlen count : ℕ) (octets : List ℕ) → coefficientsFit q (decoded qlen count octets) ≡ true → {m : ℕ} → m < count
+    → coefficientAt qlen octets m < q
+coefficientsFit-at q qlen count octets e {m} l =
+    rw (getD-decoded qlen count octets l) at (coefficientsFit-below q (decoded qlen count octets) e m (rw (length-decoded qlen count octets) l))
+
 pub coefficientsFit-true : (q : ℕ) (xs : List ℕ) → AllBelow q xs → coefficientsFit q xs ≡ true
 unfolding coefficientsFit
 coefficientsFit-true q xs h = every-true (length xs) (λ i l. lt-ltb (getD xs i 0) q (h i l))

@@ -4,13 +4,14 @@
 --   smallBits-..      b bits hold exactly the numbers below ℓ
 --   Accepted          what the five tests of an accepted set say, a field for each comparison
 --   bitLength-..      q has just that many bits;  qlen-..: and just that many octets
---   ..Length-positive no length of an accepted set is 0, the message's apart
+--   ..-degree-most    dX and dr are at most 2
+--   ..Length-positive no length of an accepted set is 0, the message's apart;  elementsLength-count: the coefficients of so many elements
 -- Assumes nothing.
 use Prim.Native.Nat.{ℕ, zero, suc, _+_, _-_, _*_, _/_, _%_, _^_, _≤_, _<_}
 use mathlib.Core.Path.{_≡_, refl, sym, ap, _∙_, subst}
 use mathlib.Core.Logic.{_⊎_, inl, inr, ⊎-elim}
 use mathlib.Core.Bool.{true}
-use native.Mathlib.Nat.{div-add-mod', div-mul-le-self, le-div-iff-mul-le, lt-of-lt-of-le, mul-pos, mul-le-mul, pow-suc}
+use native.Mathlib.Nat.{div-add-mod', div-mul-le-self, mul-div-cancel, le-div-iff-mul-le, lt-of-lt-of-le, mul-pos, mul-le-mul, pow-suc}
 use native.Mathlib.Omega.{arith}
 use borrow.Author.Tests.{eqb-true, leb-true, ltb-true, not-false, eq-eqb, le-leb, lt-ltb}
 use lib.Count.{leadingZeros, leading-top, leading-length}
@@ -211,6 +212,12 @@ qlen-holds q h = lt-of-lt-of-le (bitLength-above q h) (qlen-bits q)
 -- ---- the lengths of an accepted set
 
 module _ (p : Parameters) (a : Accepted p) where
+  pub key-degree-most : p .dx ≤ 2
+  key-degree-most = ⊎-elim (λ e. omega arith) (λ e. omega arith) (a .key-degree)
+
+  pub mask-degree-most : p .dr ≤ 2
+  mask-degree-most = ⊎-elim (λ e. omega arith) (λ e. omega arith) (a .mask-degree)
+
   pub modulus-positive : 0 < p .q
   modulus-positive = omega (arith, a .modulus-above)
 
@@ -230,6 +237,11 @@ module _ (p : Parameters) (a : Accepted p) where
   unfolding elementsLength
   elementsLength-positive elements h =
       mul-pos (mul-pos h (omega (arith, a .ring-least))) (qlen-least (p .q) modulus-positive modulus-word)
+
+  -- so many elements have n coefficients each
+  pub elementsLength-count : (elements : ℕ) → elementsLength p elements / qlen (p .q) ≡ elements * p .n
+  unfolding elementsLength
+  elementsLength-count elements = mul-div-cancel (elements * p .n) (qlen-least (p .q) modulus-positive modulus-word)
 
   pub publicLength-positive : 1 ≤ publicLength p
   unfolding publicLength

@@ -80,6 +80,10 @@ module _ {A : Type 0} (first later : List Test) (a : A) where
   unfolding answer
   answer-untouched k e = rw e
 
+  pub answer-untouched-at : (k : ℕ) → (k ≡ 0 → ⊥) → firstRefusal first ≡ k → answer first later a ≡ untouched k
+  answer-untouched-at zero pos e = absurd (pos refl)
+  answer-untouched-at (suc k) pos e = answer-untouched k e
+
   -- only tests that all pass are accepted, and with the values given
   pub answer-accepted-only : (b : A) → answer first later a ≡ accepted b → (firstRefusal first ≡ 0) × (firstRefusal later ≡ 0) × (a ≡ b)
   unfolding answer

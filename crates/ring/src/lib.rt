@@ -13,13 +13,15 @@ ghost use Rattle.ring.specs.Rows.{padded, factorsFrom, rowTerm, rowSum, 
 // Where a sum of four products is cut into a low and a high half: 2^42.
 const CUT: u64 = 4398046511104;
 
-// The sum of two coefficients.
+// The sum of two coefficients. Where taking q off the sum wraps, q was not to be taken off: the highest bit says so, which is quicker to
+// test, four coefficients at once, than the sum against q.
 pub fn sum(a: u32, b: u32, q: u32) -> u32
     requires { ⌜ (a < q) × (b < q) × (q < 2147483648) ⌝ }
     ensures { λ r. ⌜ r ≡ (a + b) % q ⌝ }
 {
     let s = a + b;
-    if s < q { s } else { s - q }
+    let t = std::num::wrapping_sub_u32(s, q);
+    if t < 2147483648 { t } else { s }
 }
 
 // Where row i starts in b written twice; 0 past the last row.

@@ -7,11 +7,10 @@ use borrow.Author.Needs.{needs}
 use Rattle.definitions.specs.Parameters.{degree, monomialCount, ciphertextLength}
 use Rattle.definitions.specs.Calls.{elementsFit}
 use Rattle.definitions.specs.Demand3.{AcceptedSet}
-use Rattle.definitions.proofs.Parameters.{accepted-set, modulus-positive, modulus-word, qlen-least, qlen-most}
+use Rattle.definitions.proofs.Parameters.{accepted-set, key-degree-most, mask-degree-most, modulus-positive, modulus-word, qlen-least, qlen-most}
 use Rattle.parameters.specs.Answers.{setFrom}
-use Rattle.addition.proofs.Exits.{key-degree-most, mask-degree-most}
-use Rattle.addition.proofs.Judged.{judged-fits, judged-refused}
-use Rattle.addition.proofs.Laws.{Exact, add-set, add-a-length, add-b-length, add-sum-length, add-a-refused, add-b-refused, add-judged, add-accepted, ciphertextLength-count}
+use Rattle.octets.proofs.Judged.{judged-fits, judged-refused}
+use Rattle.addition.proofs.Returns.{Exact, addExit-set, addExit-a-length, addExit-b-length, addExit-sum-length, addExit-a-refused, addExit-b-refused, exact-judged, addExit-accepted, ciphertextLength-count}
 use Rattle.addition.proofs.add.Statement.{statement}
 use Rattle.addition.proofs.add.Tie as tie
 
@@ -21,7 +20,7 @@ refusal-requires c κs = search needs
 returns : tie.Need-returns
 returns c =
     let a = c .before .before .before .before .before .args in
-    add-set (setFrom (a .p)) (a .a .now) (a .b .now) (a .sum .now) (c .before .refusal .ensures) (c .if1 .taken)
+    addExit-set (setFrom (a .p)) (a .a .now) (a .b .now) (a .sum .now) (c .before .refusal .ensures) (c .if1 .taken)
 
 accepted : (c : tie.Else1) → AcceptedSet (setFrom (c .before .before .before .before .before .args .p))
 accepted c = sym (c .before .refusal .ensures) ∙ c .if1 .left
@@ -36,17 +35,17 @@ ciphertext-length-requires c κs =
 returns-2 : tie.Need-returns-2
 returns-2 c =
     let a = c .before .before .before .before .before .before .before .args in
-    add-a-length (setFrom (a .p)) (a .a .now) (a .b .now) (a .sum .now) (accepted (c .before .before)) (c .before .ciphertext-length .ensures) (c .if2 .taken)
+    addExit-a-length (setFrom (a .p)) (a .a .now) (a .b .now) (a .sum .now) (accepted (c .before .before)) (c .before .ciphertext-length .ensures) (c .if2 .taken)
 
 returns-3 : tie.Need-returns-3
 returns-3 c =
     let a = c .before .before .before .before .before .before .before .before .args in
-    add-b-length (setFrom (a .p)) (a .a .now) (a .b .now) (a .sum .now) (accepted (c .before .before .before)) (c .before .before .ciphertext-length .ensures) (c .if3 .taken)
+    addExit-b-length (setFrom (a .p)) (a .a .now) (a .b .now) (a .sum .now) (accepted (c .before .before .before)) (c .before .before .ciphertext-length .ensures) (c .if3 .taken)
 
 returns-4 : tie.Need-returns-4
 returns-4 c =
     let a = c .before .before .before .before .before .before .before .before .before .args in
-    add-sum-length (setFrom (a .p)) (a .a .now) (a .b .now) (a .sum .now) (accepted (c .before .before .before .before)) (c .before .before .before .ciphertext-length .ensures) (c .if4 .taken)
+    addExit-sum-length (setFrom (a .p)) (a .a .now) (a .b .now) (a .sum .now) (accepted (c .before .before .before .before)) (c .before .before .before .ciphertext-length .ensures) (c .if4 .taken)
 
 exact : (c : tie.Else4) → let a = c .before .before .before .before .before .before .before .before .before .args in Exact (setFrom (a .p)) (a .a .now) (a .b .now) (a .sum .now)
 exact c =
@@ -76,7 +75,7 @@ unfolding ciphertextLength
 returns-5 c =
     let a = c .before .before .before .before .before .before .before .before .before .before .before .before .args in
     let e = exact (c .before .before .before) in
-    add-a-refused (setFrom (a .p)) (a .a .now) (a .b .now) (a .sum .now) e
+    addExit-a-refused (setFrom (a .p)) (a .a .now) (a .b .now) (a .sum .now) e
     (judged-refused _ (accepted-set _ (e .set)) _ (a .a .now) (e .a-length) (c .before .before .octets-of-coefficient .ensures) (c .before .judge .ensures) (c .if5 .taken))
 
 a-fits : (c : tie.Else5) → elementsFit (setFrom (c .before .before .before .before .before .before .before .before .before .before .before .before .args .p)) (monomialCount (degree (setFrom (c .before .before .before .before .before .before .before .before .before .before .before .before .args .p)))) (c .before .before .before .before .before .before .before .before .before .before .before .before .args .a .now) ≡ true
@@ -93,7 +92,7 @@ unfolding ciphertextLength
 returns-6 c =
     let a = c .before .before .before .before .before .before .before .before .before .before .before .before .before .before .args in
     let e = exact (c .before .before .before .before .before) in
-    add-b-refused (setFrom (a .p)) (a .a .now) (a .b .now) (a .sum .now) e
+    addExit-b-refused (setFrom (a .p)) (a .a .now) (a .b .now) (a .sum .now) e
     (judged-refused _ (accepted-set _ (e .set)) _ (a .b .now) (e .b-length) (c .before .before .before .before .octets-of-coefficient .ensures) (c .before .judge2 .ensures) (c .if6 .taken))
 
 b-fits : (c : tie.Else6) → elementsFit (setFrom (c .before .before .before .before .before .before .before .before .before .before .before .before .before .before .args .p)) (monomialCount (degree (setFrom (c .before .before .before .before .before .before .before .before .before .before .before .before .before .before .args .p)))) (c .before .before .before .before .before .before .before .before .before .before .before .before .before .before .args .b .now) ≡ true
@@ -112,7 +111,7 @@ add-octets-requires c κs =
     let a = c .before .before .before .before .before .before .before .before .before .before .before .before .before .before .before .args in
     let e = exact (c .before .before .before .before .before .before) in
     rw (c .before .before .before .before .before .octets-of-coefficient .ensures, c .before .before .before .before .before .before .before .before .before .ciphertext-length .ensures, ciphertextLength-count (setFrom (a .p)) (e .set))
-    (add-judged (setFrom (a .p)) (a .a .now) (a .b .now) (a .sum .now) e (a-fits (c .before .before .before)) (b-fits (c .before)))
+    (exact-judged (setFrom (a .p)) (a .a .now) (a .b .now) (a .sum .now) e (a-fits (c .before .before .before)) (b-fits (c .before)))
 
 same-length : tie.Need-same-length
 same-length c = search needs
@@ -121,7 +120,7 @@ returns-7 : tie.Need-returns-7
 returns-7 c =
     let a = c .before .before .before .before .before .before .before .before .before .before .before .before .before .before .before .before .before .before .args in
     let e = exact (c .before .before .before .before .before .before .before .before .before) in
-    add-accepted (setFrom (a .p)) (a .a .now) (a .b .now) (a .sum .now) e (a-fits (c .before .before .before .before .before .before)) (b-fits (c .before .before .before .before))
+    addExit-accepted (setFrom (a .p)) (a .a .now) (a .b .now) (a .sum .now) e (a-fits (c .before .before .before .before .before .before)) (b-fits (c .before .before .before .before))
     (rw (c .before .before .before .before .before .before .before .before .octets-of-coefficient .ensures, c .before .before .before .before .before .before .before .before .before .before .before .before .ciphertext-length .ensures, ciphertextLength-count (setFrom (a .p)) (e .set)) at (c .before .before .add-octets .ensures))
 
 pub add-spec : {M : Type 1} → statement M

@@ -7,9 +7,10 @@ use native.Mathlib.Omega.{arith}
 use lib.ListN.{length, take}
 use Rattle.definitions.specs.Sequences.{joined}
 use Rattle.definitions.specs.Octets.{coefficientAt, encoded}
+use Rattle.definitions.proofs.Octets.{coefficientsFit-at}
 use Rattle.octets.proofs.Laws.{place-end, place-fits}
 use Rattle.addition.specs.Sums.{coefficientSums}
-use Rattle.addition.proofs.Laws.{coefficientsFit-at, coefficientSums-step, coefficientSums-end}
+use Rattle.addition.proofs.Sums.{coefficientSums-step, coefficientSums-end}
 use Rattle.addition.proofs.add_by.Statement.{statement}
 use Rattle.addition.proofs.add_by.Tie as tie
 

@@ -4,8 +4,7 @@ use mathlib.Core.Path.{refl, sym, _∙_}
 use mathlib.Core.List.{[]}
 use borrow.Author.Needs.{needs}
 use Rattle.definitions.specs.Refusals.{firstRefusal}
-use Rattle.definitions.proofs.Refusals.{answer-accepted}
-use Rattle.parameters.proofs.Answers.{answer-untouched-at}
+use Rattle.definitions.proofs.Refusals.{answer-accepted, answer-untouched-at}
 use Rattle.parameters.specs.Answers.{setAnswer}
 use Rattle.parameters.proofs.Parameters.new.Statement.{statement}
 use Rattle.parameters.proofs.Parameters.new.Tie as tie

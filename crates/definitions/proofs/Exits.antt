@@ -1,32 +1,22 @@
--- What a call leaves at each of its returns, for every call: the tests that led there decide its answer.
+-- Why each return of a call leaves what its ..Exit says: the tests that led there decide the answer. One section for all calls.
 --
---   leaves            what the call leaves for an answer: keygenLeaves and its kin
+--   leaves            what the call leaves for an answer: keygenLeaves and its kin, at the buffers that it was lent
 --   exit-set          an unfit set: its number, and nothing is touched
 --   exit-length       a length that is not the exact one: 6, and nothing is touched
 --   exit-refused      the first of the later tests that applies
 --   exit-accepted     no test applies
 -- Assumes nothing.
-use Prim.Native.Nat.{ℕ, suc, _≤_}
+use Prim.Native.Nat.{ℕ, suc}
 use mathlib.Core.Path.{_≡_, sym, ap, _∙_}
 use mathlib.Core.Bool.{Bool, true, false, cond}
 use mathlib.Core.List.{List}
-use Rattle.definitions.specs.Refusals.{Test, Answer, untouched, refused, accepted, firstRefusal, answer}
-use Rattle.definitions.specs.Parameters.{Parameters, setTests}
-use Rattle.definitions.specs.Calls.{lengthTests}
-use Rattle.definitions.specs.Demand3.{AcceptedSet}
-use Rattle.definitions.proofs.Refusals.{firstRefusal-append-refused, answer-untouched, answer-refused, answer-accepted}
-use Rattle.definitions.proofs.Calls.{lengthTests-decide}
-use Rattle.parameters.proofs.Answers.{answer-untouched-at}
-use Rattle.definitions.proofs.Parameters.{Accepted}
 use native.Mathlib.Nat.{pos-of-ne-zero}
-use native.Mathlib.Omega.{arith}
-use mathlib.Core.Logic.{⊎-elim}
-
-pub key-degree-most : (p : Parameters) → Accepted p → p .dx ≤ 2
-key-degree-most p a = ⊎-elim (λ e. omega arith) (λ e. omega arith) (a .key-degree)
-
-pub mask-degree-most : (p : Parameters) → Accepted p → p .dr ≤ 2
-mask-degree-most p a = ⊎-elim (λ e. omega arith) (λ e. omega arith) (a .mask-degree)
+use Rattle.definitions.specs.Refusals.{Test, Answer, untouched, refused, accepted, firstRefusal, answer}
+use Rattle.definitions.specs.Parameters.{Parameters, setTests}
+use Rattle.definitions.specs.Calls.{lengthTests}
+use Rattle.definitions.specs.Demand3.{AcceptedSet}
+use Rattle.definitions.proofs.Refusals.{firstRefusal-append-refused, answer-untouched, answer-untouched-at, answer-refused, answer-accepted}
+use Rattle.definitions.proofs.Calls.{lengthTests-decide}
 
 module _ {A E : Type 0} (leaves : Answer A → E) (p : Parameters) (exact : Bool) (later : List Test) (a : A) where
   pub exit-set : {k : ℕ} → k ≡ firstRefusal (setTests p) → (k ≡ 0 → ⊥) → leaves (untouched k) ≡ leaves (answer (lengthTests p exact) later a)
