@@ -1,8 +1,8 @@
 // Small elements and messages (01, "Ring, monomials, octets"): coefficient i takes b bits, starting at bit i × b of the octets.
 // 8 coefficients of b bits are b octets, so the loops go by such groups; a last group may be shorter. A list that ends early counts as
 // going on with zeros, so the lengths are free. Unused bits are judged by `padding`, which refuses with 7, and written as zero.
-// The contracts cite the definitions' unpacked, packed and paddingClear. Each loop is written once, with b as a variable; `unpack` and
-// `pack` call it with a constant, so that the compiler makes a loop for each b.
+// The contracts cite the definitions' unpacked, packed and paddingClear. The loop over groups is written once, with b as a variable, and
+// called with a constant, so that the compiler makes a loop for each b.
 ghost use mathlib.Core.Path.{_≡_};
 ghost use mathlib.Core.Bool.{true};
 ghost use mathlib.Core.List.{_++_};
@@ -58,8 +58,7 @@ fn clear_words(words: &mut [u32], at: usize)
     }
 }
 
-// The first groups of 8 coefficients.
-fn unpack_groups(octets: &[u8], b: usize, groups: usize, words: &mut [u32])
+fn unpack_groups_by(octets: &[u8], b: usize, groups: usize, words: &mut [u32])
     requires { ⌜ (1 ≤ b) × (b ≤ 4) × (groups * b ≤ length (now octets)) × (groups * 8 ≤ length (now words)) ⌝ }
     ensures { λ _. ⌜ take (groups * 8) (now (words .exit)) ≡ unpacked b (groups * 8) (now (octets .entry)) ⌝ }
 {
@@ -70,7 +69,28 @@ fn unpack_groups(octets: &[u8], b: usize, groups: usize, words: &mut [u32])
     }
 }
 
-fn unpack_by(octets: &[u8], b: usize, words: &mut [u32])
+// The first groups of 8 coefficients.
+fn unpack_groups(octets: &[u8], b: usize, groups: usize, words: &mut [u32])
+    requires { ⌜ (1 ≤ b) × (b ≤ 4) × (groups * b ≤ length (now octets)) × (groups * 8 ≤ length (now words)) ⌝ }
+    ensures { λ _. ⌜ take (groups * 8) (now (words .exit)) ≡ unpacked b (groups * 8) (now (octets .entry)) ⌝ }
+{
+    if b == 1 {
+        unpack_groups_by(octets, 1, groups, words);
+        return;
+    }
+    if b == 2 {
+        unpack_groups_by(octets, 2, groups, words);
+        return;
+    }
+    if b == 3 {
+        unpack_groups_by(octets, 3, groups, words);
+        return;
+    }
+    unpack_groups_by(octets, 4, groups, words);
+}
+
+// The coefficients of octets, as words.
+pub fn unpack(octets: &[u8], b: usize, words: &mut [u32])
     requires { ⌜ (1 ≤ b) × (b ≤ 4) ⌝ }
     ensures { λ _. ⌜ now (words .exit) ≡ unpacked b (length (now (words .entry))) (now (octets .entry)) ⌝ }
 {
@@ -82,26 +102,6 @@ fn unpack_by(octets: &[u8], b: usize, words: &mut [u32])
     let len = least(octets.len() - from, b);
     spread(words, at, count, b, octets::number(octets, from, len));
     clear_words(words, at + count);
-}
-
-// The coefficients of octets, as words.
-pub fn unpack(octets: &[u8], b: u32, words: &mut [u32])
-    requires { ⌜ (1 ≤ b) × (b ≤ 4) ⌝ }
-    ensures { λ _. ⌜ now (words .exit) ≡ unpacked b (length (now (words .entry))) (now (octets .entry)) ⌝ }
-{
-    if b == 1 {
-        unpack_by(octets, 1, words);
-        return;
-    }
-    if b == 2 {
-        unpack_by(octets, 2, words);
-        return;
-    }
-    if b == 3 {
-        unpack_by(octets, 3, words);
-        return;
-    }
-    unpack_by(octets, 4, words);
 }
 
 // The number of so many coefficients from a place on.
@@ -129,8 +129,7 @@ fn clear_octets(octets: &mut [u8], at: usize)
     }
 }
 
-// The first groups of b octets.
-fn pack_groups(words: &[u32], b: usize, groups: usize, octets: &mut [u8])
+fn pack_groups_by(words: &[u32], b: usize, groups: usize, octets: &mut [u8])
     requires { ⌜ (1 ≤ b) × (b ≤ 4) × (groups * b ≤ length (now octets)) × (groups * 8 ≤ length (now words)) × (coefficientsFit (2 ^ b) (now words) ≡ true) ⌝ }
     ensures { λ _. ⌜ take (groups * b) (now (octets .exit)) ≡ packed b (groups * b) (now (words .entry)) ⌝ }
 {
@@ -141,7 +140,28 @@ fn pack_groups(words: &[u32], b: usize, groups: usize, octets: &mut [u8])
     }
 }
 
-fn pack_by(words: &[u32], b: usize, octets: &mut [u8])
+// The first groups of b octets.
+fn pack_groups(words: &[u32], b: usize, groups: usize, octets: &mut [u8])
+    requires { ⌜ (1 ≤ b) × (b ≤ 4) × (groups * b ≤ length (now octets)) × (groups * 8 ≤ length (now words)) × (coefficientsFit (2 ^ b) (now words) ≡ true) ⌝ }
+    ensures { λ _. ⌜ take (groups * b) (now (octets .exit)) ≡ packed b (groups * b) (now (words .entry)) ⌝ }
+{
+    if b == 1 {
+        pack_groups_by(words, 1, groups, octets);
+        return;
+    }
+    if b == 2 {
+        pack_groups_by(words, 2, groups, octets);
+        return;
+    }
+    if b == 3 {
+        pack_groups_by(words, 3, groups, octets);
+        return;
+    }
+    pack_groups_by(words, 4, groups, octets);
+}
+
+// The octets of words below 2^b.
+pub fn pack(words: &[u32], b: usize, octets: &mut [u8])
     requires { ⌜ (1 ≤ b) × (b ≤ 4) × (coefficientsFit (2 ^ b) (now words) ≡ true) ⌝ }
     ensures { λ _. ⌜ now (octets .exit) ≡ packed b (length (now (octets .entry))) (now (words .entry)) ⌝ }
 {
@@ -153,24 +173,4 @@ fn pack_by(words: &[u32], b: usize, octets: &mut [u8])
     let len = least(octets.len() - from, b);
     octets::store(octets, from, len, gather(words, at, count, b));
     clear_octets(octets, from + len);
-}
-
-// The octets of words below 2^b.
-pub fn pack(words: &[u32], b: u32, octets: &mut [u8])
-    requires { ⌜ (1 ≤ b) × (b ≤ 4) × (coefficientsFit (2 ^ b) (now words) ≡ true) ⌝ }
-    ensures { λ _. ⌜ now (octets .exit) ≡ packed b (length (now (octets .entry))) (now (words .entry)) ⌝ }
-{
-    if b == 1 {
-        pack_by(words, 1, octets);
-        return;
-    }
-    if b == 2 {
-        pack_by(words, 2, octets);
-        return;
-    }
-    if b == 3 {
-        pack_by(words, 3, octets);
-        return;
-    }
-    pack_by(words, 4, octets);
 }

@@ -1,68 +1,98 @@
--- `packing::unpack` calls one loop, at the b that its tests found.
+-- `packing::unpack` is right because whole groups, the last one and zeros are all that there is.
 -- Assumes nothing.
-use mathlib.Core.Path.{_≡_}
+use Prim.Native.Nat.{_*_, _≤_}
+use mathlib.Core.Path.{_∙_}
+use native.Mathlib.Nat.{lt-of-le-of-lt}
 use native.Mathlib.Omega.{arith}
+use lib.ListN.{length, take, drop}
+use Rattle.definitions.specs.Octets.{unpacked}
+use Rattle.packing.proofs.Fields.{numberOf-value, groups-places, groups-numbers, part-end, parts-whole}
 use borrow.Author.Needs.{needs}
 use Rattle.packing.proofs.unpack.Statement.{statement}
 use Rattle.packing.proofs.unpack.Tie as tie
 
-unpack-by-requires : tie.Need-unpack-by-requires
-unpack-by-requires c κs = search needs
+div-least : tie.Need-div-least
+div-least c = search needs
+
+least-requires : tie.Need-least-requires
+least-requires c κs = search needs
+
+places : (c : tie.After-least) → c .least .result * 8 ≤ length (c .before .before .before .args .words .now)
+places c =
+    let a = c .before .before .before .args in
+    groups-places 8 (a .b) (length (a .words .now)) (a .octets .now) (omega arith) (omega arith) (c .least .result) (c .least .ensures)
+
+numbers : (c : tie.After-least) → c .least .result * c .before .before .before .args .b ≤ length (c .before .before .before .args .octets .now)
+numbers c =
+    let a = c .before .before .before .args in
+    groups-numbers 8 (a .b) (length (a .words .now)) (a .octets .now) (omega arith) (omega arith) (c .least .result) (c .least .ensures)
+
+unpack-groups-requires : tie.Need-unpack-groups-requires
+unpack-groups-requires c κs = (omega arith, omega arith, numbers (c .before), places (c .before))
+
+mul-at : tie.Need-mul-at
+mul-at c = search needs
+
+mul-from : tie.Need-mul-from
+mul-from c = record { fits = lt-of-le-of-lt (numbers (c .before .before .before .before)) (c .before .before .before .before .before .before .before .good .0 .0) }
+
+sub-least : tie.Need-sub-least
+sub-least c = search needs
+
+least-requires-2 : tie.Need-least-requires-2
+least-requires-2 c κs = search needs
+
+sub-least-2 : tie.Need-sub-least-2
+sub-least-2 c = numbers (c .before .before .before .before .before)
+
+least-requires-3 : tie.Need-least-requires-3
+least-requires-3 c κs = search needs
+
+number-requires : tie.Need-number-requires
+number-requires c κs = (omega arith, part-end (c .before .before .before .before .before .before .before .before .before .before .args .b) (numbers (c .before .before .before .before .before .before .before)) (c .before .least3 .ensures))
+
+spread-requires : tie.Need-spread-requires
+spread-requires c κs = search needs
+
+add-clear-words : tie.Need-add-clear-words
+add-clear-words c = search needs
+
+clear-words-requires : tie.Need-clear-words-requires
+clear-words-requires c κs = search needs
 
 same-length : tie.Need-same-length
 same-length c = search needs
 
 returns : tie.Need-returns
+unfolding unpacked
 returns c =
-    let e : c .before .before .before .before .before .before .before .args .b ≡ 1 = omega arith in
-    rw e (c .before .before .unpack-by .ensures)
-
-unpack-by-requires-2 : tie.Need-unpack-by-requires-2
-unpack-by-requires-2 c κs = search needs
-
-same-length-2 : tie.Need-same-length-2
-same-length-2 c = search needs
-
-returns-2 : tie.Need-returns-2
-returns-2 c =
-    let e : c .before .before .before .before .before .before .before .before .args .b ≡ 2 = omega arith in
-    rw e (c .before .before .unpack-by2 .ensures)
-
-unpack-by-requires-3 : tie.Need-unpack-by-requires-3
-unpack-by-requires-3 c κs = search needs
-
-same-length-3 : tie.Need-same-length-3
-same-length-3 c = search needs
-
-returns-3 : tie.Need-returns-3
-returns-3 c =
-    let e : c .before .before .before .before .before .before .before .before .before .args .b ≡ 3 = omega arith in
-    rw e (c .before .before .unpack-by3 .ensures)
-
-unpack-by-requires-4 : tie.Need-unpack-by-requires-4
-unpack-by-requires-4 c κs = search needs
-
-same-length-4 : tie.Need-same-length-4
-same-length-4 c = search needs
-
-returns-4 : tie.Need-returns-4
-returns-4 c =
-    let e : c .before .before .before .before .before .before .before .before .before .args .b ≡ 4 = omega arith in
-    rw e (c .before .before .unpack-by4 .ensures)
+    let a = c .before .before .before .before .before .before .before .before .before .before .before .before .before .before .before .before .before .before .args in
+    let n = length (a .words .now) in
+    let first = c .before .before .before .before .before .before .before .before .before .before .before .before .before .unpack-groups in
+    let last = c .before .before .before .before .before .before .spread in
+    parts-whole 8 (a .b) n (a .octets .now) (omega arith) (omega arith) (c .before .before .before .before .before .before .before .before .before .before .before .before .before .before .before .least .result) (c .before .before .before .before .before .before .before .before .before .before .before .before .before .before .before .least .ensures)
+    (λ i h. c .before .before .before .before .before .before .before .before .before .before .before .before .before .before .before .before .before .shared-slice-known .given i .fits) (c .before .before .before .before .before .before .before .before .before .before .least2 .result) (c .before .before .before .before .before .before .before .before .before .least3 .result)
+    (rw (first .kept .1 .1 .1 .0) at (c .before .before .before .before .before .before .before .before .before .before .least2 .ensures)) (c .before .before .before .before .before .before .before .before .before .least3 .ensures)
+    (first .last .1 .1 .1 .0) (last .last .0) (c .before .before .clear-words .last .0)
+    (first .ensures) (c .before .before .before .before .before .before .before .number .ensures ∙ numberOf-value _) (last .ensures)
+    (last .kept .0 ∙ first .kept .1 .1 .1 .0) (c .before .before .clear-words .ensures)
 
 pub unpack-spec : {M : Type 1} → statement M
 unpack-spec =
     tie.close
     (tie.spec
-    unpack-by-requires
+    div-least
+    least-requires
+    unpack-groups-requires
+    mul-at
+    mul-from
+    sub-least
+    least-requires-2
+    sub-least-2
+    least-requires-3
+    number-requires
+    spread-requires
+    add-clear-words
+    clear-words-requires
     same-length
-    returns
-    unpack-by-requires-2
-    same-length-2
-    returns-2
-    unpack-by-requires-3
-    same-length-3
-    returns-3
-    unpack-by-requires-4
-    same-length-4
-    returns-4)
+    returns)

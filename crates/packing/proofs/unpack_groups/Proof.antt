@@ -1,83 +1,80 @@
--- `packing::unpack_groups` is right because a turn puts the 8 coefficients of b octets behind those of the groups before.
+-- `packing::unpack_groups` calls one loop, at the b that its tests found.
 -- Assumes nothing.
-use Prim.Native.Nat.{_-_, _*_, _≤_}
-use mathlib.Core.Path.{_≡_, refl, _∙_}
-use native.Mathlib.Nat.{zero-mul}
+use mathlib.Core.Path.{_≡_}
 use native.Mathlib.Omega.{arith}
-use lib.ListN.{length, take, drop}
-use Rattle.definitions.specs.Sequences.{tabulate}
-use Rattle.definitions.specs.Octets.{regrouped, unpacked}
-use Rattle.octets.proofs.Laws.{place-end, place-fits}
-use Rattle.packing.proofs.Fields.{numberOf-value, group-step}
+use borrow.Author.Needs.{needs}
 use Rattle.packing.proofs.unpack_groups.Statement.{statement}
 use Rattle.packing.proofs.unpack_groups.Tie as tie
 
-abbrev Inv-loop : tie.InvT-loop
-Inv-loop octets b groups words₀ g₀ words g =
-    (g ≤ groups) × (length words ≡ length words₀) × (take (g * 8) words ≡ unpacked b (g * 8) octets)
+unpack-groups-by-requires : tie.Need-unpack-groups-by-requires
+unpack-groups-by-requires c κs =
+    let s = c .before .before .before .before in
+    let e : s .args .b ≡ 1 = omega arith in
+    rw e at (s .pre)
 
-abbrev μ-loop : tie.MeasureT-loop
-μ-loop octets b groups words₀ g₀ words g = groups - g
+same-length : tie.Need-same-length
+same-length c = search needs
 
-loop-holds : tie.Need-loop-holds Inv-loop μ-loop
-unfolding unpacked regrouped tabulate
-loop-holds c = (omega arith, refl, refl)
-
-mul-spread : tie.Need-mul-spread Inv-loop μ-loop
-mul-spread c = omega arith
-
-mul-number : tie.Need-mul-number Inv-loop μ-loop
-mul-number c =
-    let s = c .before .before .before .before .before in
-    record { fits = place-fits (c .before .before .loop .g) (s .args .b) (c .before .loop-test .taken) (s .pre .2) (s .good .0 .0) }
-
-number-requires : tie.Need-number-requires Inv-loop μ-loop
-number-requires c κs =
-    let s = c .before .before .before .before .before in
-    (omega arith, place-end (c .before .before .loop .g) (s .args .b) (c .before .loop-test .taken) (s .pre .2))
-
-spread-requires : tie.Need-spread-requires Inv-loop μ-loop
-spread-requires c κs = (omega arith, omega arith, omega arith, omega arith)
-
-add-g : tie.Need-add-g Inv-loop μ-loop
-add-g c = omega arith
-
-loop-less : tie.Need-loop-less Inv-loop μ-loop
-loop-less c = omega arith
-
-loop-again : tie.Need-loop-again Inv-loop μ-loop
-unfolding unpacked
-loop-again c =
-    let a = c .before .before .before .before .before .before .before .before .before .args in
-    let l = c .before .before .before .before .before .before .loop in (
-      omega arith,
-      omega arith,
-      group-step 8 (a .b) (a .octets .now) (l .words) (c .before .before .spread .last .0) (l .g) (omega arith) (λ i h. c .before .before .before .before .before .before .before .before .shared-slice-known .given i .fits) (l .inv .2)
-          (c .before .before .before .number .ensures ∙ numberOf-value (take (a .b) (drop (l .g * a .b) (a .octets .now)))) (c .before .before .spread .ensures),
-    )
-
-same-length : tie.Need-same-length Inv-loop μ-loop
-same-length c = omega arith
-
-returns : tie.Need-returns Inv-loop μ-loop
+returns : tie.Need-returns
 returns c =
-    let l = c .before .loop in
-    let end : c .before .before .before .before .args .groups ≡ l .g = omega arith in
-    rw end (l .inv .2)
+    let e : c .before .before .before .before .before .before .before .args .b ≡ 1 = omega arith in
+    rw e (c .before .before .unpack-groups-by .ensures)
+
+unpack-groups-by-requires-2 : tie.Need-unpack-groups-by-requires-2
+unpack-groups-by-requires-2 c κs =
+    let s = c .before .before .before .before .before in
+    let e : s .args .b ≡ 2 = omega arith in
+    rw e at (s .pre)
+
+same-length-2 : tie.Need-same-length-2
+same-length-2 c = search needs
+
+returns-2 : tie.Need-returns-2
+returns-2 c =
+    let e : c .before .before .before .before .before .before .before .before .args .b ≡ 2 = omega arith in
+    rw e (c .before .before .unpack-groups-by2 .ensures)
+
+unpack-groups-by-requires-3 : tie.Need-unpack-groups-by-requires-3
+unpack-groups-by-requires-3 c κs =
+    let s = c .before .before .before .before .before .before in
+    let e : s .args .b ≡ 3 = omega arith in
+    rw e at (s .pre)
+
+same-length-3 : tie.Need-same-length-3
+same-length-3 c = search needs
+
+returns-3 : tie.Need-returns-3
+returns-3 c =
+    let e : c .before .before .before .before .before .before .before .before .before .args .b ≡ 3 = omega arith in
+    rw e (c .before .before .unpack-groups-by3 .ensures)
+
+unpack-groups-by-requires-4 : tie.Need-unpack-groups-by-requires-4
+unpack-groups-by-requires-4 c κs =
+    let s = c .before .before .before .before .before .before in
+    let e : s .args .b ≡ 4 = omega arith in
+    rw e at (s .pre)
+
+same-length-4 : tie.Need-same-length-4
+same-length-4 c = search needs
+
+returns-4 : tie.Need-returns-4
+returns-4 c =
+    let e : c .before .before .before .before .before .before .before .before .before .args .b ≡ 4 = omega arith in
+    rw e (c .before .before .unpack-groups-by4 .ensures)
 
 pub unpack-groups-spec : {M : Type 1} → statement M
 unpack-groups-spec =
     tie.close
     (tie.spec
-    Inv-loop
-    μ-loop
-    loop-holds
-    mul-spread
-    mul-number
-    number-requires
-    spread-requires
-    add-g
-    loop-less
-    loop-again
+    unpack-groups-by-requires
     same-length
-    returns)
+    returns
+    unpack-groups-by-requires-2
+    same-length-2
+    returns-2
+    unpack-groups-by-requires-3
+    same-length-3
+    returns-3
+    unpack-groups-by-requires-4
+    same-length-4
+    returns-4)

@@ -1,0 +1,81 @@
+-- `conversions::elements_to_octets` is right because it makes the tests of the definition in their order, and encodes where all pass.
+-- Assumes nothing.
+use mathlib.Core.Path.{_≡_, sym, ap, _∙_}
+use lib.ListN.{length}
+use Rattle.definitions.specs.Parameters.{qlen}
+use Rattle.definitions.specs.Octets.{encoded}
+use Rattle.octets.specs.Reading.{fitNumber}
+use Rattle.parameters.specs.Answers.{setFrom}
+use Rattle.conversions.proofs.Exits.{to-tested, exit-first, exit-second, exit-refused, exit-accepted}
+use Rattle.conversions.proofs.Sets.{octets-least, octets-most, elements-fit, elements-octets}
+use borrow.Author.Needs.{needs}
+use Rattle.conversions.proofs.elements_to_octets.Statement.{statement}
+use Rattle.conversions.proofs.elements_to_octets.Tie as tie
+
+cast-if1 : tie.Need-cast-if1
+cast-if1 c = search needs
+
+mul-if1 : tie.Need-mul-if1
+mul-if1 c = let s = c .before .before .before in record { fits = elements-fit (setFrom (s .args .p)) (s .pre .0) (s .pre .1) }
+
+returns : tie.Need-returns
+returns c = exit-first (to-tested _ _ _ _) _ (c .before .before .before .before .pre .0) (c .if1 .taken)
+
+elements-length-requires : tie.Need-elements-length-requires
+elements-length-requires c κs = search needs
+
+returns-2 : tie.Need-returns-2
+returns-2 c =
+    exit-second (to-tested _ _ _ _) _ (c .before .before .before .before .before .before .pre .0) (c .before .before .if1 .left) (λ e. c .if2 .taken (e ∙ sym (c .before .elements-length .ensures)))
+
+judge-words-requires : tie.Need-judge-words-requires
+judge-words-requires c κs = search needs
+
+returns-3 : tie.Need-returns-3
+unfolding fitNumber
+returns-3 c =
+    exit-refused (to-tested _ _ _ _) _ (c .before .before .before .before .before .before .before .before .pre .0) (c .before .before .before .before .if1 .left) (c .before .before .if2 .left ∙ c .before .before .before .elements-length .ensures)
+    (c .before .judge-words .result) (c .if3 .taken) (c .before .judge-words .ensures)
+
+octets-of-coefficient-requires : tie.Need-octets-of-coefficient-requires
+octets-of-coefficient-requires c κs = search needs
+
+encode-requires : tie.Need-encode-requires
+encode-requires c κs =
+    let s = c .before .before .before .before .before .before .before .before .before .before in
+    let k = c .before .octets-of-coefficient in (
+      rw (k .ensures) (octets-least (setFrom (s .args .p)) (s .pre .0)),
+      rw (k .ensures) (octets-most (setFrom (s .args .p)) (s .pre .0)),
+      rw (c .before .before .before .before .before .before .if1 .left)
+          (elements-octets (setFrom (s .args .p)) (s .pre .0) (s .args .elements) (k .result) (s .args .octets .now) (k .ensures)
+          (c .before .before .before .before .if2 .left ∙ c .before .before .before .before .before .elements-length .ensures)),
+    )
+
+same-length : tie.Need-same-length
+same-length c = search needs
+
+returns-4 : tie.Need-returns-4
+unfolding fitNumber
+returns-4 c =
+    let s = c .before .before .before .before .before .before .before .before .before .before .before .before .before in
+    let k = c .before .before .before .before .octets-of-coefficient in
+    let value : c .before .before .encode .last .1 .1 .0 ≡ encoded (qlen (s .args .p .q)) (s .args .words .now)
+    = rw (← k .ensures) (c .before .before .encode .ensures) in
+    exit-accepted (to-tested _ _ _ _) _ (s .pre .0) (c .before .before .before .before .before .before .before .before .before .if1 .left) (c .before .before .before .before .before .before .before .if2 .left ∙ c .before .before .before .before .before .before .before .before .elements-length .ensures)
+    (c .before .before .encode .last .1 .1 .0) (sym (c .before .before .before .before .before .before .judge-words .ensures) ∙ c .before .before .before .before .before .if3 .left) value
+
+pub elements-to-octets-spec : {M : Type 1} → statement M
+elements-to-octets-spec =
+    tie.close
+    (tie.spec
+    cast-if1
+    mul-if1
+    returns
+    elements-length-requires
+    returns-2
+    judge-words-requires
+    returns-3
+    octets-of-coefficient-requires
+    encode-requires
+    same-length
+    returns-4)

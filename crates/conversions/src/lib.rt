@@ -1,0 +1,172 @@
+// The conversions between octets and coefficient words of 32 bits (01, "What the library does"): ring elements, small elements, public keys
+// and ciphertexts. Each call tests the set (refusals 1 to 5), the exact lengths (6), then the unused bits (7) or the coefficients (8), and
+// writes only where all of them pass: a refusal leaves the output as it was. The contracts equate what a caller has at exit with the
+// definitions' conversionExit.
+use parameters::Parameters;
+ghost use mathlib.Core.Path.{_≡_};
+ghost use Prim.Native.Nat.{_≤_};
+ghost use lib.ListN.{length};
+ghost use Rattle.definitions.specs.Refusals.{firstRefusal};
+ghost use Rattle.definitions.specs.Parameters.{setTests};
+ghost use Rattle.definitions.specs.Conversions.{conversionExit, fromOctetsAnswer, toOctetsAnswer, smallFromAnswer, smallToAnswer, ringElements, publicElements, ciphertextElements};
+ghost use Rattle.parameters.specs.Answers.{setFrom};
+
+// So many ring elements of an accepted set from octets.
+fn elements_from_octets(p: Parameters, elements: usize, octets: &[u8], words: &mut [u32]) -> u32
+    requires { ⌜ (firstRefusal (setTests (setFrom p)) ≡ 0) × (elements ≤ 15) ⌝ }
+    ensures { λ r. ⌜ record { refusal = r; converted = now (words .exit) } ≡ conversionExit (fromOctetsAnswer (setFrom p) elements (now (octets .entry)) (length (now (words .entry)))) (now (words .entry)) ⌝ }
+{
+    if octets.len() != parameters::lengths::elements_length(p, elements) {
+        return parameters::refusals::LENGTH;
+    }
+    if words.len() != elements * (p.n as usize) {
+        return parameters::refusals::LENGTH;
+    }
+    let qlen = parameters::lengths::octets_of_coefficient(p.q);
+    let refused = octets::judge(octets, qlen, p.q);
+    if refused != 0 {
+        return refused;
+    }
+    octets::decode(octets, qlen, words);
+    0
+}
+
+// So many ring elements of an accepted set to octets.
+fn elements_to_octets(p: Parameters, elements: usize, words: &[u32], octets: &mut [u8]) -> u32
+    requires { ⌜ (firstRefusal (setTests (setFrom p)) ≡ 0) × (elements ≤ 15) ⌝ }
+    ensures { λ r. ⌜ record { refusal = r; converted = now (octets .exit) } ≡ conversionExit (toOctetsAnswer (setFrom p) elements (now (words .entry)) (length (now (octets .entry)))) (now (octets .entry)) ⌝ }
+{
+    if words.len() != elements * (p.n as usize) {
+        return parameters::refusals::LENGTH;
+    }
+    if octets.len() != parameters::lengths::elements_length(p, elements) {
+        return parameters::refusals::LENGTH;
+    }
+    let refused = octets::judge_words(words, p.q);
+    if refused != 0 {
+        return refused;
+    }
+    octets::encode(
+        words,
+        parameters::lengths::octets_of_coefficient(p.q),
+        octets,
+    );
+    0
+}
+
+// A ring element: n coefficients.
+pub fn element_from_octets(p: Parameters, octets: &[u8], words: &mut [u32]) -> u32
+    ensures { λ r. ⌜ record { refusal = r; converted = now (words .exit) } ≡ conversionExit (fromOctetsAnswer (setFrom p) (ringElements (setFrom p)) (now (octets .entry)) (length (now (words .entry)))) (now (words .entry)) ⌝ }
+{
+    let refused = parameters::refusal(p);
+    if refused != 0 {
+        return refused;
+    }
+    elements_from_octets(p, 1, octets, words)
+}
+
+pub fn element_to_octets(p: Parameters, words: &[u32], octets: &mut [u8]) -> u32
+    ensures { λ r. ⌜ record { refusal = r; converted = now (octets .exit) } ≡ conversionExit (toOctetsAnswer (setFrom p) (ringElements (setFrom p)) (now (words .entry)) (length (now (octets .entry)))) (now (octets .entry)) ⌝ }
+{
+    let refused = parameters::refusal(p);
+    if refused != 0 {
+        return refused;
+    }
+    elements_to_octets(p, 1, words, octets)
+}
+
+// A public key: an element for each monomial of degree at most dX.
+pub fn public_key_from_octets(p: Parameters, octets: &[u8], words: &mut [u32]) -> u32
+    ensures { λ r. ⌜ record { refusal = r; converted = now (words .exit) } ≡ conversionExit (fromOctetsAnswer (setFrom p) (publicElements (setFrom p)) (now (octets .entry)) (length (now (words .entry)))) (now (words .entry)) ⌝ }
+{
+    let refused = parameters::refusal(p);
+    if refused != 0 {
+        return refused;
+    }
+    elements_from_octets(p, parameters::lengths::monomial_count(p.dx), octets, words)
+}
+
+pub fn public_key_to_octets(p: Parameters, words: &[u32], octets: &mut [u8]) -> u32
+    ensures { λ r. ⌜ record { refusal = r; converted = now (octets .exit) } ≡ conversionExit (toOctetsAnswer (setFrom p) (publicElements (setFrom p)) (now (words .entry)) (length (now (octets .entry)))) (now (octets .entry)) ⌝ }
+{
+    let refused = parameters::refusal(p);
+    if refused != 0 {
+        return refused;
+    }
+    elements_to_octets(p, parameters::lengths::monomial_count(p.dx), words, octets)
+}
+
+// A ciphertext (01: sealed form): an element for each monomial of degree at most dX + dr.
+pub fn ciphertext_from_octets(p: Parameters, octets: &[u8], words: &mut [u32]) -> u32
+    ensures { λ r. ⌜ record { refusal = r; converted = now (words .exit) } ≡ conversionExit (fromOctetsAnswer (setFrom p) (ciphertextElements (setFrom p)) (now (octets .entry)) (length (now (words .entry)))) (now (words .entry)) ⌝ }
+{
+    let refused = parameters::refusal(p);
+    if refused != 0 {
+        return refused;
+    }
+    elements_from_octets(
+        p,
+        parameters::lengths::monomial_count(p.dx + p.dr),
+        octets,
+        words,
+    )
+}
+
+pub fn ciphertext_to_octets(p: Parameters, words: &[u32], octets: &mut [u8]) -> u32
+    ensures { λ r. ⌜ record { refusal = r; converted = now (octets .exit) } ≡ conversionExit (toOctetsAnswer (setFrom p) (ciphertextElements (setFrom p)) (now (words .entry)) (length (now (octets .entry)))) (now (octets .entry)) ⌝ }
+{
+    let refused = parameters::refusal(p);
+    if refused != 0 {
+        return refused;
+    }
+    elements_to_octets(
+        p,
+        parameters::lengths::monomial_count(p.dx + p.dr),
+        words,
+        octets,
+    )
+}
+
+// A small element: n coefficients of b bits. A given octet string with a bit set past them is refused with 7.
+pub fn small_from_octets(p: Parameters, octets: &[u8], words: &mut [u32]) -> u32
+    ensures { λ r. ⌜ record { refusal = r; converted = now (words .exit) } ≡ conversionExit (smallFromAnswer (setFrom p) (now (octets .entry)) (length (now (words .entry)))) (now (words .entry)) ⌝ }
+{
+    let refused = parameters::refusal(p);
+    if refused != 0 {
+        return refused;
+    }
+    if octets.len() != parameters::lengths::small_length(p) {
+        return parameters::refusals::LENGTH;
+    }
+    if words.len() != p.n as usize {
+        return parameters::refusals::LENGTH;
+    }
+    let b = parameters::lengths::bits(p.l) as usize;
+    let padded = packing::padding(octets, words.len() * b);
+    if padded != 0 {
+        return padded;
+    }
+    packing::unpack(octets, b, words);
+    0
+}
+
+pub fn small_to_octets(p: Parameters, words: &[u32], octets: &mut [u8]) -> u32
+    ensures { λ r. ⌜ record { refusal = r; converted = now (octets .exit) } ≡ conversionExit (smallToAnswer (setFrom p) (now (words .entry)) (length (now (octets .entry)))) (now (octets .entry)) ⌝ }
+{
+    let refused = parameters::refusal(p);
+    if refused != 0 {
+        return refused;
+    }
+    if words.len() != p.n as usize {
+        return parameters::refusals::LENGTH;
+    }
+    if octets.len() != parameters::lengths::small_length(p) {
+        return parameters::refusals::LENGTH;
+    }
+    let judged = octets::judge_words(words, p.l);
+    if judged != 0 {
+        return judged;
+    }
+    packing::pack(words, parameters::lengths::bits(p.l) as usize, octets);
+    0
+}
