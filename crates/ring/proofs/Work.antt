@@ -1,7 +1,7 @@
 -- What stands where after a list was written over the work words: the list inside, the old words before and after it.
 -- A loop that writes one word a turn goes by `Writing`.
 -- Assumes nothing.
-use Prim.Native.Nat.{ℕ, zero, suc, _+_, _-_, _≤_, _<_, zero-le}
+use Prim.Native.Nat.{ℕ, suc, _+_, _-_, _≤_, _<_, zero-le}
 use native.Mathlib.Nat.{le-of-lt, add-zero, zero-add}
 use native.Mathlib.Numerals.{add-one}
 use native.Mathlib.Omega.{arith}
@@ -12,12 +12,8 @@ use lib.ListN.{length, getD, take, drop, set, length-append, length-set, length-
 use lib.Seq.{drop-cons, set-at, take-at, drop-at, getD-append-add, getD-take, getD-drop, length-take-le}
 use Rattle.definitions.specs.Sequences.{tabulate}
 use Rattle.definitions.proofs.Sums.{length-tabulate, getD-tabulate}
+use Rattle.definitions.proofs.Filling.{tabulate-snoc}
 use Rattle.ring.specs.Work.{part, written, Apart}
-
-pub tabulate-snoc : (n : ℕ) (f : ℕ → ℕ) → tabulate (suc n) f ≡ tabulate n f ++ (f n ∷ [])
-unfolding tabulate
-tabulate-snoc zero f = refl
-tabulate-snoc (suc n) f = ap (λ (l : List ℕ). f zero ∷ l) (tabulate-snoc n (λ i. f (suc i)))
 
 pub length-written : (at : ℕ) (new old : List ℕ) → at + length new ≤ length old → length (written at new old) ≡ length old
 unfolding written
