@@ -3,6 +3,8 @@
 // writes only where all of them pass: a refusal leaves the output as it was. The contracts equate what a caller has at exit with the
 // definitions' conversionExit.
 use parameters::Parameters;
+use parameters::lengths;
+use parameters::refusals;
 ghost use mathlib.Core.Path.{_≡_};
 ghost use Prim.Native.Nat.{_≤_};
 ghost use lib.ListN.{length};
@@ -16,13 +18,13 @@ fn elements_from_octets(p: Parameters, elements: usize, octets: &[u8], words: &m
     requires { ⌜ (firstRefusal (setTests (setFrom p)) ≡ 0) × (elements ≤ 15) ⌝ }
     ensures { λ r. ⌜ record { refusal = r; converted = now (words .exit) } ≡ conversionExit (fromOctetsAnswer (setFrom p) elements (now (octets .entry)) (length (now (words .entry)))) (now (words .entry)) ⌝ }
 {
-    if octets.len() != parameters::lengths::elements_length(p, elements) {
-        return parameters::refusals::LENGTH;
+    if octets.len() != lengths::elements_length(p, elements) {
+        return refusals::LENGTH;
     }
     if words.len() != elements * (p.n as usize) {
-        return parameters::refusals::LENGTH;
+        return refusals::LENGTH;
     }
-    let qlen = parameters::lengths::octets_of_coefficient(p.q);
+    let qlen = lengths::octets_of_coefficient(p.q);
     let refused = octets::judge(octets, qlen, p.q);
     if refused != 0 {
         return refused;
@@ -37,20 +39,16 @@ fn elements_to_octets(p: Parameters, elements: usize, words: &[u32], octets: &mu
     ensures { λ r. ⌜ record { refusal = r; converted = now (octets .exit) } ≡ conversionExit (toOctetsAnswer (setFrom p) elements (now (words .entry)) (length (now (octets .entry)))) (now (octets .entry)) ⌝ }
 {
     if words.len() != elements * (p.n as usize) {
-        return parameters::refusals::LENGTH;
+        return refusals::LENGTH;
     }
-    if octets.len() != parameters::lengths::elements_length(p, elements) {
-        return parameters::refusals::LENGTH;
+    if octets.len() != lengths::elements_length(p, elements) {
+        return refusals::LENGTH;
     }
     let refused = octets::judge_words(words, p.q);
     if refused != 0 {
         return refused;
     }
-    octets::encode(
-        words,
-        parameters::lengths::octets_of_coefficient(p.q),
-        octets,
-    );
+    octets::encode(words, lengths::octets_of_coefficient(p.q), octets);
     0
 }
 
@@ -83,7 +81,7 @@ pub fn public_key_from_octets(p: Parameters, octets: &[u8], words: &mut [u32]) -
     if refused != 0 {
         return refused;
     }
-    elements_from_octets(p, parameters::lengths::monomial_count(p.dx), octets, words)
+    elements_from_octets(p, lengths::monomial_count(p.dx), octets, words)
 }
 
 pub fn public_key_to_octets(p: Parameters, words: &[u32], octets: &mut [u8]) -> u32
@@ -93,7 +91,7 @@ pub fn public_key_to_octets(p: Parameters, words: &[u32], octets: &mut [u8]) -> 
     if refused != 0 {
         return refused;
     }
-    elements_to_octets(p, parameters::lengths::monomial_count(p.dx), words, octets)
+    elements_to_octets(p, lengths::monomial_count(p.dx), words, octets)
 }
 
 // A ciphertext (01: sealed form): an element for each monomial of degree at most dX + dr.
@@ -104,12 +102,7 @@ pub fn ciphertext_from_octets(p: Parameters, octets: &[u8], words: &mut [u32]) -
     if refused != 0 {
         return refused;
     }
-    elements_from_octets(
-        p,
-        parameters::lengths::monomial_count(p.dx + p.dr),
-        octets,
-        words,
-    )
+    elements_from_octets(p, lengths::monomial_count(p.dx + p.dr), octets, words)
 }
 
 pub fn ciphertext_to_octets(p: Parameters, words: &[u32], octets: &mut [u8]) -> u32
@@ -119,12 +112,7 @@ pub fn ciphertext_to_octets(p: Parameters, words: &[u32], octets: &mut [u8]) -> 
     if refused != 0 {
         return refused;
     }
-    elements_to_octets(
-        p,
-        parameters::lengths::monomial_count(p.dx + p.dr),
-        words,
-        octets,
-    )
+    elements_to_octets(p, lengths::monomial_count(p.dx + p.dr), words, octets)
 }
 
 // A small element: n coefficients of b bits. A given octet string with a bit set past them is refused with 7.
@@ -135,14 +123,14 @@ pub fn small_from_octets(p: Parameters, octets: &[u8], words: &mut [u32]) -> u32
     if refused != 0 {
         return refused;
     }
-    if octets.len() != parameters::lengths::small_length(p) {
-        return parameters::refusals::LENGTH;
+    if octets.len() != lengths::small_length(p) {
+        return refusals::LENGTH;
     }
     if words.len() != p.n as usize {
-        return parameters::refusals::LENGTH;
+        return refusals::LENGTH;
     }
-    let b = parameters::lengths::bits(p.l) as usize;
-    let padded = packing::padding(octets, words.len() * b);
+    let b = lengths::bits(p.l);
+    let padded = packing::padding(octets, words.len() * (b as usize));
     if padded != 0 {
         return padded;
     }
@@ -158,15 +146,15 @@ pub fn small_to_octets(p: Parameters, words: &[u32], octets: &mut [u8]) -> u32
         return refused;
     }
     if words.len() != p.n as usize {
-        return parameters::refusals::LENGTH;
+        return refusals::LENGTH;
     }
-    if octets.len() != parameters::lengths::small_length(p) {
-        return parameters::refusals::LENGTH;
+    if octets.len() != lengths::small_length(p) {
+        return refusals::LENGTH;
     }
     let judged = octets::judge_words(words, p.l);
     if judged != 0 {
         return judged;
     }
-    packing::pack(words, parameters::lengths::bits(p.l) as usize, octets);
+    packing::pack(words, lengths::bits(p.l), octets);
     0
 }

@@ -90,17 +90,18 @@ fn unpack_groups(octets: &[u8], b: usize, groups: usize, words: &mut [u32])
 }
 
 // The coefficients of octets, as words.
-pub fn unpack(octets: &[u8], b: usize, words: &mut [u32])
+pub fn unpack(octets: &[u8], b: u32, words: &mut [u32])
     requires { ⌜ (1 ≤ b) × (b ≤ 4) ⌝ }
     ensures { λ _. ⌜ now (words .exit) ≡ unpacked b (length (now (words .entry))) (now (octets .entry)) ⌝ }
 {
-    let groups = least(words.len() / 8, octets.len() / b);
-    unpack_groups(octets, b, groups, words);
+    let width = b as usize;
+    let groups = least(words.len() / 8, octets.len() / width);
+    unpack_groups(octets, width, groups, words);
     let at = groups * 8;
-    let from = groups * b;
+    let from = groups * width;
     let count = least(words.len() - at, 8);
-    let len = least(octets.len() - from, b);
-    spread(words, at, count, b, octets::number(octets, from, len));
+    let len = least(octets.len() - from, width);
+    spread(words, at, count, width, octets::number(octets, from, len));
     clear_words(words, at + count);
 }
 
@@ -161,16 +162,17 @@ fn pack_groups(words: &[u32], b: usize, groups: usize, octets: &mut [u8])
 }
 
 // The octets of words below 2^b.
-pub fn pack(words: &[u32], b: usize, octets: &mut [u8])
+pub fn pack(words: &[u32], b: u32, octets: &mut [u8])
     requires { ⌜ (1 ≤ b) × (b ≤ 4) × (coefficientsFit (2 ^ b) (now words) ≡ true) ⌝ }
     ensures { λ _. ⌜ now (octets .exit) ≡ packed b (length (now (octets .entry))) (now (words .entry)) ⌝ }
 {
-    let groups = least(octets.len() / b, words.len() / 8);
-    pack_groups(words, b, groups, octets);
+    let width = b as usize;
+    let groups = least(octets.len() / width, words.len() / 8);
+    pack_groups(words, width, groups, octets);
     let at = groups * 8;
-    let from = groups * b;
+    let from = groups * width;
     let count = least(words.len() - at, 8);
-    let len = least(octets.len() - from, b);
-    octets::store(octets, from, len, gather(words, at, count, b));
+    let len = least(octets.len() - from, width);
+    octets::store(octets, from, len, gather(words, at, count, width));
     clear_octets(octets, from + len);
 }

@@ -38,8 +38,8 @@ returns-3 c = exit-second (small-from-tested _ _ _) _ (accepted (c .before .befo
 bits-requires : tie.Need-bits-requires
 bits-requires c κs = search needs
 
-cast-b : tie.Need-cast-b
-cast-b c = search needs
+cast-padding : tie.Need-cast-padding
+cast-padding c = search needs
 
 mul-padding : tie.Need-mul-padding
 mul-padding c = record { fits = rw (c .before .if3 .left, c .bits .ensures) (bits-fit (setFrom (c .before .before .before .before .before .before .before .before .before .args .p)) (accepted (c .before .before .before .before .before))) }
@@ -82,7 +82,7 @@ small-from-octets-spec =
     cast-if3
     returns-3
     bits-requires
-    cast-b
+    cast-padding
     mul-padding
     padding-requires
     returns-4

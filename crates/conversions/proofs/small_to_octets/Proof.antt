@@ -46,9 +46,6 @@ returns-4 c =
 bits-requires : tie.Need-bits-requires
 bits-requires c κs = search needs
 
-cast-pack : tie.Need-cast-pack
-cast-pack c = search needs
-
 pack-requires : tie.Need-pack-requires
 pack-requires c κs =
     let s = c .before .before .before .before .before .before .before .before .before .before .before .before in
@@ -85,7 +82,6 @@ small-to-octets-spec =
     judge-words-requires
     returns-4
     bits-requires
-    cast-pack
     pack-requires
     same-length
     returns-5)
