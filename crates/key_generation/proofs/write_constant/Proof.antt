@@ -1,0 +1,106 @@
+-- `write_constant` is right because the value of the key with constant 0 is that of the other terms, and the constant is its negative.
+-- Assumes nothing.
+use Prim.Native.Nat.{ℕ, _+_, _-_, _*_, _≤_}
+use native.Mathlib.Nat.{mod-lt, mul-le-mul}
+use native.Mathlib.Omega.{arith}
+use mathlib.Core.Path.{_≡_, sym, ap, _∙_}
+use lib.ListN.{length}
+use borrow.Author.Needs.{needs}
+use Rattle.definitions.specs.Monomials.{value}
+use Rattle.ring.specs.Work.{part}
+use Rattle.values.specs.Folding.{flat}
+use Rattle.key_generation.proofs.Parts.{lent-length, tail-length, constant-room, constant-placed}
+use Rattle.key_generation.proofs.write_constant.Statement.{statement}
+use Rattle.key_generation.proofs.write_constant.Tie as tie
+
+evaluate-requires : tie.Need-evaluate-requires
+evaluate-requires c κs = search needs
+
+-- the value stands in the third part of as many work words
+inside : (c : tie.After-evaluate) → 2 * c .before .before .before .before .before .args .n + c .before .before .before .before .before .args .n ≤ length (c .evaluate .last .1 .1 .1 .1 .1 .0)
+inside c = omega (arith, c .evaluate .kept .1 .1 .1 .1 .1 .0, c .before .before .before .before .before .pre .0 .0 .room)
+
+mul-at : tie.Need-mul-at
+mul-at c = search needs
+
+negate-requires : tie.Need-negate-requires
+negate-requires c κs = (inside (c .before .before .before), (λ k l. rw (c .before .before .before .evaluate .ensures k l) (mod-lt _ (c .before .before .before .before .before .before .before .before .pre .0 .4))))
+
+add-stop : tie.Need-add-stop
+add-stop c = search needs
+
+mul-from : tie.Need-mul-from
+mul-from c = let sizes = c .before .before .before .before .before .before .before .before .before .before .before .pre .0 .0 in
+    omega (arith, mul-le-mul (sizes .most) (sizes .octets-most))
+
+-- and the constant's octets at the end of the key's
+room : (c : tie.Start) → c .args .n * c .args .qlen ≤ length (c .args .public .now)
+room c = omega (arith, constant-room (c .args .d) (c .args .n) (c .args .qlen), c .pre .0 .3)
+
+sub-from : tie.Need-sub-from
+sub-from c = room (c .before .before .before .before .before .before .before .before .before .before .before)
+
+mul-encode : tie.Need-mul-encode
+mul-encode c = search needs
+
+sub-encode : tie.Need-sub-encode
+sub-encode c = search needs
+
+part-encode-start : tie.Need-part-encode-start
+part-encode-start c = search needs
+
+part-encode-end : tie.Need-part-encode-end
+part-encode-end c = search needs
+
+sub-encode-2 : tie.Need-sub-encode-2
+sub-encode-2 c = search needs
+
+part-encode-start-2 : tie.Need-part-encode-start-2
+part-encode-start-2 c = search needs
+
+part-encode-end-2 : tie.Need-part-encode-end-2
+part-encode-end-2 c = search needs
+
+encode-requires : tie.Need-encode-requires
+encode-requires c κs = let s = c .before .before .before .before .before .before .before .before .before .before .before .before .before .before in
+    let at : ℕ = length (s .args .public .now) - s .args .n * s .args .qlen in
+    let octets : length (s .args .public .now) - at ≡ s .args .n * s .args .qlen = omega (arith, room s) in (
+      s .pre .0 .0 .octets-least,
+      s .pre .0 .0 .octets-most,
+      tail-length at (s .args .public .now) (omega arith)
+          ∙ octets
+          ∙ ap (λ (m : ℕ). m * s .args .qlen) (sym (lent-length (2 * s .args .n) (s .args .n) _ (omega (arith, inside (c .before .before .before .before .before .before .before .before .before), c .before .before .before .before .before .negate .kept .0)))),
+    )
+
+same-length : tie.Need-same-length
+same-length c = search needs
+
+same-length-2 : tie.Need-same-length-2
+same-length-2 c = search needs
+
+returns : tie.Need-returns
+returns c = let a = c .before .before .before .before .before .before .before .before .before .before .before .before .before .before .before .before .before .args in
+    constant-placed (a .n) (a .qlen) (a .q) (a .public .now) (c .before .before .encode .last .1 .1 .0) (c .before .before .before .before .before .before .before .before .before .before .before .before .evaluate .last .1 .1 .1 .1 .1 .0) (c .before .before .before .before .before .before .before .before .negate .last .0)
+    (value (a .n) (a .d) (flat (a .n) (a .qlen) (a .public .now)) (part (a .work .now) 0) (part (a .work .now) (a .n))) (room (c .before .before .before .before .before .before .before .before .before .before .before .before .before .before .before .before .before)) (inside (c .before .before .before .before .before .before .before .before .before .before .before .before)) (c .before .before .before .before .before .before .before .before .before .before .before .before .evaluate .ensures) (c .before .before .before .before .before .before .before .before .negate .ensures) (c .before .before .encode .ensures)
+
+pub write-constant-spec : {M : Type 1} → statement M
+write-constant-spec =
+    tie.close
+    (tie.spec
+    evaluate-requires
+    mul-at
+    negate-requires
+    add-stop
+    mul-from
+    sub-from
+    mul-encode
+    sub-encode
+    part-encode-start
+    part-encode-end
+    sub-encode-2
+    part-encode-start-2
+    part-encode-end-2
+    encode-requires
+    same-length
+    same-length-2
+    returns)
