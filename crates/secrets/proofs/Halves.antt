@@ -1,0 +1,83 @@
+-- Why the two halves of a secret's octets are its two elements: each has the octets of one, and no more.
+--
+--   half-second      the octets from the second half on are that half
+--   padded-..        what the tests of both halves say of the whole secret
+--   unpacked-halves  both halves unpacked into the first two parts
+-- Assumes nothing.
+use Prim.Native.Nat.{ℕ, _+_, _*_, _≤_, _<_, zero-le}
+use mathlib.Core.Path.{_≡_, refl, ap, _∙_}
+use mathlib.Core.Bool.{Bool, true, false, not, _&&_, and-false}
+use mathlib.Core.List.{List, [], _∷_}
+use native.Mathlib.Omega.{arith}
+use borrow.Author.Tests.{not-false}
+use lib.Dec.{lit<}
+use lib.ListN.{length, getD, take, drop, length-drop}
+use lib.Seq.{take-all}
+use Rattle.definitions.specs.Refusals.{refuse, firstRefusal}
+use Rattle.definitions.specs.Parameters.{Parameters, smallBits, smallLength, secretLength, workLength}
+use Rattle.definitions.specs.Octets.{unpacked, paddingClear}
+use Rattle.definitions.specs.Calls.{smallOf, secretX, secretY, secretPadded}
+use Rattle.definitions.proofs.Refusals.{firstRefusal-passed, firstRefusal-last}
+use Rattle.definitions.proofs.Parameters.{secretLength-halves}
+use Rattle.definitions.proofs.Packing.{length-unpacked}
+use Rattle.packing.specs.Fields.{paddingNumber}
+use Rattle.ring.specs.Work.{part, written}
+use Rattle.ring.proofs.Work.{length-written, getD-written, getD-written-before}
+use Rattle.secrets.specs.Secrets.{half, Unpacked}
+
+pub paddingNumber-passed : (used : ℕ) (octets : List ℕ) → paddingNumber used octets ≡ 0 → paddingClear used octets ≡ true
+unfolding paddingNumber
+paddingNumber-passed used octets e = not-false _ (firstRefusal-passed 7 _ [] (lit< tt) e .0)
+
+pub paddingNumber-refused : (used : ℕ) (octets : List ℕ) → (paddingNumber used octets ≡ 0 → ⊥) → paddingClear used octets ≡ false
+unfolding paddingNumber
+paddingNumber-refused used octets e = go (paddingClear used octets) e
+  where
+    go : (t : Bool) → (firstRefusal (refuse 7 (not t) ∷ []) ≡ 0 → ⊥) → t ≡ false
+    go true e = absurd (e (firstRefusal-last 7 false refl))
+    go false e = refl
+
+module _ (p : Parameters) (secret : List ℕ) (exact : length secret ≡ secretLength p) where
+  pub half-second : half p (smallLength p) secret ≡ drop (smallLength p) secret
+  half-second = take-all (smallLength p) (drop (smallLength p) secret) (simp length-drop (omega (arith, exact, secretLength-halves p)))
+
+  pub first-room : 0 + smallLength p ≤ length secret
+  first-room = omega (arith, exact, secretLength-halves p)
+
+  pub second-room : smallLength p + smallLength p ≤ length secret
+  second-room = omega (arith, exact, secretLength-halves p)
+
+  abbrev clear : ℕ → Bool
+  clear from = paddingClear (p .n * smallBits (p .l)) (half p from secret)
+
+  pub padded-not : clear 0 ≡ false → false ≡ secretPadded p secret
+  unfolding secretPadded
+  padded-not e = rw e
+
+  pub padded-second : clear 0 ≡ true → clear (smallLength p) ≡ secretPadded p secret
+  unfolding secretPadded
+  padded-second e = rw (e, half-second)
+
+  pub unpacked-halves : (work mid : List ℕ) {new : List ℕ} → length work ≡ workLength p
+      → mid ≡ written 0 (unpacked (smallBits (p .l)) (p .n) (half p 0 secret)) work
+      → new ≡ written (p .n) (unpacked (smallBits (p .l)) (p .n) (half p (smallLength p) secret)) mid
+      → Unpacked p secret new
+  unfolding secretX secretY smallOf workLength
+  unpacked-halves work mid room e f =
+      let b : ℕ = smallBits (p .l) in
+      let xs : List ℕ = unpacked b (p .n) (half p 0 secret) in
+      let ys : List ℕ = unpacked b (p .n) (half p (smallLength p) secret) in
+      let x-length : length xs ≡ p .n = length-unpacked b (p .n) (half p 0 secret) in
+      let y-length : length ys ≡ p .n = length-unpacked b (p .n) (half p (smallLength p) secret) in
+      let as-long : length mid ≡ length work = ap length e ∙ length-written 0 xs work (omega (arith, room)) in
+      record {
+        x = λ k l.
+            ap (λ (w : List ℕ). getD w (0 + k) 0) f
+            ∙ getD-written-before (p .n) ys mid (omega (arith, room)) (omega arith)
+            ∙ ap (λ (w : List ℕ). getD w (0 + k) 0) e
+            ∙ getD-written 0 xs work zero-le (omega arith);
+        y = λ k l.
+            ap (λ (w : List ℕ). getD w (p .n + k) 0) f
+            ∙ getD-written (p .n) ys mid (omega (arith, room)) (omega arith)
+            ∙ ap (λ (s : List ℕ). getD (unpacked b (p .n) s) k 0) half-second;
+      }

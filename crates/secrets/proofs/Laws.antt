@@ -1,0 +1,100 @@
+-- Why the value that is found is that of the definitions: the octets' coefficients are the polynomial's, and the first two parts the secret's.
+--
+--   polynomialFrom-flat    the coefficients as they stand in the octets
+--   unpacked-below         an unpacked secret's coefficients are below 16
+--   value-sizes, value-coefficients    what taking the value asks
+--   valued-..              what each return leaves
+-- Assumes nothing.
+use Prim.Native.Nat.{ℕ, suc, _+_, _*_, _%_, _≤_, _<_}
+use mathlib.Core.Path.{_≡_, refl, sym, ap, _∙_}
+use mathlib.Core.Bool.{true, false}
+use mathlib.Core.List.{List, []}
+use native.Mathlib.Nat.{mul-le-mul-right, lt-of-lt-of-le}
+use native.Mathlib.Omega.{arith}
+use lib.ListN.{length}
+use Rattle.definitions.specs.Parameters.{Parameters, qlen, monomialCount, elementsLength, workLength}
+use Rattle.definitions.specs.Ring.{InRing, modulo}
+use Rattle.definitions.specs.Monomials.{polynomialOf, value}
+use Rattle.definitions.specs.Octets.{coefficientAt}
+use Rattle.definitions.specs.Calls.{secretX, secretY, secretPadded, decodedElements, polynomialFrom, elementsFit}
+use Rattle.definitions.proofs.Refusals.{firstRefusal-applies, firstRefusal-passes, firstRefusal-last}
+use Rattle.definitions.proofs.Parameters.{Accepted, accepted-set, modulus-positive, modulus-word, qlen-least, qlen-most, range-most}
+use Rattle.definitions.proofs.Octets.{getD-decoded}
+use Rattle.definitions.proofs.Small.{smallOf-below}
+use Rattle.definitions.proofs.Values.{value-cong}
+use Rattle.ring.specs.Work.{part}
+use Rattle.values.specs.Folding.{Sizes, flat}
+use Rattle.values.proofs.Stages.{value-cong-secret}
+use Rattle.addition.proofs.Laws.{coefficientsFit-at}
+use Rattle.secrets.specs.Secrets.{Exact, Unpacked, Valued, valueFrom}
+
+module _ (p : Parameters) (d : ℕ) (secret octets : List ℕ) where
+  pub polynomialFrom-flat : (i : ℕ) → i < monomialCount d → (k : ℕ) → k < p .n → flat (p .n) (qlen (p .q)) octets i k ≡ polynomialFrom p d octets i k
+  unfolding polynomialFrom polynomialOf decodedElements
+  polynomialFrom-flat i l k s =
+      let inside : suc i * p .n ≤ monomialCount d * p .n = mul-le-mul-right (p .n) l in
+      sym (getD-decoded (qlen (p .q)) (monomialCount d * p .n) octets (omega arith))
+
+  module _ {work : List ℕ} (exact : Exact p d secret octets work) where
+    set : Accepted p
+    set = accepted-set p (exact .set)
+
+    pub value-sizes : {mid : List ℕ} → length mid ≡ length work → Sizes (p .n) (qlen (p .q)) mid
+    unfolding workLength
+    value-sizes e =
+        record {
+          places = omega (arith, set .ring-least);
+          most = set .ring-most;
+          octets-least = qlen-least (p .q) (modulus-positive p set) (modulus-word p set);
+          octets-most = qlen-most (p .q);
+          room = e ∙ exact .work-length;
+        }
+
+    pub value-octets : length octets ≡ monomialCount d * p .n * qlen (p .q)
+    unfolding elementsLength
+    value-octets = exact .octets-length
+
+    pub value-coefficients : elementsFit p (monomialCount d) octets ≡ true → (m : ℕ) → m < monomialCount d * p .n → coefficientAt (qlen (p .q)) octets m < p .q
+    unfolding elementsFit decodedElements
+    value-coefficients e m l = coefficientsFit-at (p .q) (qlen (p .q)) (monomialCount d * p .n) octets e l
+
+    pub value-modulus : (0 < p .q) × (p .q < 2147483648)
+    value-modulus = (modulus-positive p set, omega (arith, set .modulus-most))
+
+    module _ {mid : List ℕ} (u : Unpacked p secret mid) where
+      pub unpacked-x : InRing 16 (p .n) (part mid 0)
+      unfolding secretX
+      unpacked-x k l = rw (u .x k l) (lt-of-lt-of-le (smallOf-below p set _ k l) (range-most p (set .range)))
+
+      pub unpacked-y : InRing 16 (p .n) (part mid (p .n))
+      unfolding secretY
+      unpacked-y k l = rw (u .y k l) (lt-of-lt-of-le (smallOf-below p set _ k l) (range-most p (set .range)))
+
+  pub valued-padding : (work : List ℕ) → secretPadded p secret ≡ false → Valued p d secret octets 7 work
+  valued-padding work e =
+      record {
+        number = sym (firstRefusal-applies 7 _ _ (rw e));
+        value = λ z. let n : ⊥ = omega arith in absurd n;
+      }
+
+  module _ (padded : secretPadded p secret ≡ true) where
+    pub valued-coefficient : (work : List ℕ) → elementsFit p (monomialCount d) octets ≡ false → Valued p d secret octets 8 work
+    valued-coefficient work e =
+        record {
+          number = sym (firstRefusal-passes 7 _ _ (rw padded) ∙ firstRefusal-applies 8 _ [] (rw e));
+          value = λ z. let n : ⊥ = omega arith in absurd n;
+        }
+
+    pub valued-accepted : {mid new : List ℕ} → elementsFit p (monomialCount d) octets ≡ true → Unpacked p secret mid
+        → ((k : ℕ) → k < p .n → part new (2 * p .n) k ≡ value (p .n) d (flat (p .n) (qlen (p .q)) octets) (part mid 0) (part mid (p .n)) k % p .q)
+        → Valued p d secret octets 0 new
+    unfolding modulo
+    valued-accepted {mid} {new} e u found =
+        record {
+          number = sym (firstRefusal-passes 7 _ _ (rw padded) ∙ firstRefusal-last 8 _ (rw e));
+          value = λ z k l.
+              found k l
+              ∙ ap (λ (v : ℕ). v % p .q)
+              (value-cong (p .n) d (part mid 0) (part mid (p .n)) polynomialFrom-flat k
+              ∙ value-cong-secret (p .n) d (polynomialFrom p d octets) (u .x) (u .y) k);
+        }

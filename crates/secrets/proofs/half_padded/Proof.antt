@@ -1,0 +1,82 @@
+-- `half_padded` judges the bits of the half past those of n coefficients.
+-- Assumes nothing.
+use Prim.Native.Nat.{ℕ, _+_, _-_, _*_, _≤_}
+use mathlib.Core.Path.{_≡_, sym, ap₂, _∙_}
+use native.Mathlib.Nat.{mul-le-mul}
+use native.Mathlib.Omega.{arith}
+use borrow.Author.Needs.{needs}
+use lib.ListN.{take, drop}
+use Rattle.definitions.specs.Parameters.{smallBits}
+use Rattle.parameters.specs.Answers.{setFrom}
+use Rattle.parameters.proofs.Bounds.{smallBits-within}
+use Rattle.packing.specs.Fields.{paddingNumber}
+use Rattle.secrets.specs.Secrets.{half}
+use Rattle.secrets.proofs.Halves.{paddingNumber-passed, paddingNumber-refused}
+use Rattle.secrets.proofs.half_padded.Statement.{statement}
+use Rattle.secrets.proofs.half_padded.Tie as tie
+
+small-length-requires : tie.Need-small-length-requires
+small-length-requires c κs = search needs
+
+add-end : tie.Need-add-end
+add-end c = search needs
+
+cast-used : tie.Need-cast-used
+cast-used c = search needs
+
+bits-requires : tie.Need-bits-requires
+bits-requires c κs = search needs
+
+cast-used-2 : tie.Need-cast-used-2
+cast-used-2 c = search needs
+
+mul-used : tie.Need-mul-used
+mul-used c =
+    let n : c .before .before .before .before .args .p .n ≤ 4294967295 = omega arith in
+    let b : c .bits .result ≤ 4 = omega (arith, smallBits-within (c .before .before .before .before .args .p .l)) in
+    omega (arith, mul-le-mul n b)
+
+sub-padding : tie.Need-sub-padding
+sub-padding c = search needs
+
+part-padding-start : tie.Need-part-padding-start
+part-padding-start c = search needs
+
+part-padding-end : tie.Need-part-padding-end
+part-padding-end c = search needs
+
+padding-requires : tie.Need-padding-requires
+padding-requires c κs = search needs
+
+judged : (c : tie.After-padding) →
+    let a = c .before .before .before .before .before .before .args in
+    c .padding .result ≡ paddingNumber (a .p .n * smallBits (a .p .l)) (half (setFrom (a .p)) (a .from) (a .secret .now))
+judged c =
+    let a = c .before .before .before .before .before .before .args in
+    let len : ℕ = c .before .before .before .before .small-length .result in
+    let whole : a .from + len - a .from ≡ len = omega arith in
+    c .padding .ensures
+    ∙ ap₂ (λ (b m : ℕ). paddingNumber (a .p .n * b) (take m (drop (a .from) (a .secret .now)))) (c .before .before .bits .ensures) (whole ∙ c .before .before .before .before .small-length .ensures)
+
+returns : tie.Need-returns
+returns c = sym (paddingNumber-refused _ _ (λ z. c .if1 .taken (judged (c .before) ∙ z)))
+
+returns-2 : tie.Need-returns-2
+returns-2 c = sym (paddingNumber-passed _ _ (sym (judged (c .before)) ∙ c .if1 .left))
+
+pub half-padded-spec : {M : Type 1} → statement M
+half-padded-spec =
+    tie.close
+    (tie.spec
+    small-length-requires
+    add-end
+    cast-used
+    bits-requires
+    cast-used-2
+    mul-used
+    sub-padding
+    part-padding-start
+    part-padding-end
+    padding-requires
+    returns
+    returns-2)

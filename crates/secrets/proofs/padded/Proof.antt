@@ -1,0 +1,37 @@
+-- `padded` judges one half after the other.
+-- Assumes nothing.
+use mathlib.Core.Path.{_≡_, sym, ap, _∙_}
+use borrow.Author.Needs.{needs}
+use borrow.Author.Tests.{not-true, not-false}
+use Prim.Native.Nat.{ℕ, _*_}
+use Rattle.definitions.specs.Parameters.{smallBits}
+use Rattle.definitions.specs.Octets.{paddingClear}
+use Rattle.parameters.specs.Answers.{setFrom}
+use Rattle.secrets.specs.Secrets.{half}
+use Rattle.secrets.proofs.Halves.{first-room, second-room, padded-not, padded-second}
+use Rattle.secrets.proofs.padded.Statement.{statement}
+use Rattle.secrets.proofs.padded.Tie as tie
+
+small-length-requires : tie.Need-small-length-requires
+small-length-requires c κs = search needs
+
+half-padded-requires : tie.Need-half-padded-requires
+half-padded-requires c κs = first-room (setFrom (c .before .before .args .p)) (c .before .before .args .secret .now) (c .before .before .pre)
+
+returns : tie.Need-returns
+returns c = padded-not _ _ (c .before .before .before .before .pre) (sym (c .before .half-padded .ensures) ∙ not-true _ (c .if1 .taken))
+
+half-padded-requires-2 : tie.Need-half-padded-requires-2
+half-padded-requires-2 c κs = rw (c .before .before .small-length .ensures) (second-room (setFrom (c .before .before .before .before .args .p)) (c .before .before .before .before .args .secret .now) (c .before .before .before .before .pre))
+
+returns-2 : tie.Need-returns-2
+returns-2 c =
+    let a = c .before .before .before .before .before .args in
+    c .half-padded2 .ensures
+    ∙ ap (λ (from : ℕ). paddingClear (a .p .n * smallBits (a .p .l)) (half (setFrom (a .p)) from (a .secret .now))) (c .before .before .before .small-length .ensures)
+    ∙ padded-second (setFrom (a .p)) (a .secret .now) (c .before .before .before .before .before .pre) (sym (c .before .before .half-padded .ensures) ∙ not-false _ (c .before .if1 .left))
+
+pub padded-spec : {M : Type 1} → statement M
+padded-spec =
+    tie.close
+    (tie.spec small-length-requires half-padded-requires returns half-padded-requires-2 returns-2)

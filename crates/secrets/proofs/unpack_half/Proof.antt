@@ -1,0 +1,96 @@
+-- `unpack_half` unpacks the half's n coefficients into a part of the work words.
+-- Assumes nothing.
+use Prim.Native.Nat.{ℕ, _+_, _-_, _≤_}
+use mathlib.Core.Path.{_≡_, ap, ap₂, _∙_}
+use mathlib.Core.List.{List}
+use native.Mathlib.Omega.{arith}
+use borrow.Author.Needs.{needs}
+use lib.ListN.{length, take, drop, length-take, length-drop}
+use Rattle.definitions.specs.Parameters.{smallBits}
+use Rattle.definitions.specs.Octets.{unpacked}
+use Rattle.definitions.proofs.Packing.{length-unpacked}
+use Rattle.parameters.specs.Answers.{setFrom}
+use Rattle.parameters.proofs.Bounds.{smallBits-within}
+use Rattle.ring.specs.Work.{written}
+use Rattle.values.proofs.Parts.{putMid-written}
+use Rattle.secrets.specs.Secrets.{half}
+use Rattle.secrets.proofs.unpack_half.Statement.{statement}
+use Rattle.secrets.proofs.unpack_half.Tie as tie
+
+small-length-requires : tie.Need-small-length-requires
+small-length-requires c κs = search needs
+
+add-end : tie.Need-add-end
+add-end c = search needs
+
+bits-requires : tie.Need-bits-requires
+bits-requires c κs = search needs
+
+cast-stop : tie.Need-cast-stop
+cast-stop c = search needs
+
+add-stop : tie.Need-add-stop
+add-stop c = search needs
+
+sub-unpack : tie.Need-sub-unpack
+sub-unpack c = search needs
+
+part-unpack-start : tie.Need-part-unpack-start
+part-unpack-start c = search needs
+
+part-unpack-end : tie.Need-part-unpack-end
+part-unpack-end c = search needs
+
+mul-unpack : tie.Need-mul-unpack
+mul-unpack c = search needs
+
+sub-unpack-2 : tie.Need-sub-unpack-2
+sub-unpack-2 c = search needs
+
+part-unpack-start-2 : tie.Need-part-unpack-start-2
+part-unpack-start-2 c = search needs
+
+part-unpack-end-2 : tie.Need-part-unpack-end-2
+part-unpack-end-2 c = search needs
+
+unpack-requires : tie.Need-unpack-requires
+unpack-requires c κs = omega (arith, c .before .before .before .bits .ensures, smallBits-within (c .before .before .before .before .before .before .before .args .p .l))
+
+same-length : tie.Need-same-length
+same-length c = search needs
+
+-- the lent part has n words
+words : (at n : ℕ) (l : List ℕ) → at + n ≤ length l → length (take (at + n - at) (drop at l)) ≡ n
+words at n l e = simp (length-take, length-drop) (omega arith)
+
+returns : tie.Need-returns
+returns c =
+    let a = c .before .before .before .before .before .before .before .before .before .before .args in
+    let len : ℕ = c .before .before .before .before .before .before .before .small-length .result in
+    let whole : a .from + len - a .from ≡ len = omega arith in
+    let given : c .before .before .unpack .last .1 .1 .0 ≡ unpacked (smallBits (a .p .l)) (a .p .n) (half (setFrom (a .p)) (a .from) (a .secret .now)) =
+    c .before .before .unpack .ensures
+    ∙ ap (λ (m : ℕ). unpacked (c .before .before .before .before .before .before .bits .result) m (take (a .from + len - a .from) (drop (a .from) (a .secret .now)))) (words (a .at) (a .p .n) (a .work .now) (c .before .before .before .before .before .before .before .before .before .before .pre .1))
+    ∙ ap₂ (λ (b m : ℕ). unpacked b (a .p .n) (take m (drop (a .from) (a .secret .now)))) (c .before .before .before .before .before .before .bits .ensures) (whole ∙ c .before .before .before .before .before .before .before .small-length .ensures) in
+    putMid-written (a .at) (a .p .n) (a .work .now) _ (ap length given ∙ length-unpacked _ _ _)
+    ∙ ap (λ (l : List ℕ). written (a .at) l (a .work .now)) given
+
+pub unpack-half-spec : {M : Type 1} → statement M
+unpack-half-spec =
+    tie.close
+    (tie.spec
+    small-length-requires
+    add-end
+    bits-requires
+    cast-stop
+    add-stop
+    sub-unpack
+    part-unpack-start
+    part-unpack-end
+    mul-unpack
+    sub-unpack-2
+    part-unpack-start-2
+    part-unpack-end-2
+    unpack-requires
+    same-length
+    returns)

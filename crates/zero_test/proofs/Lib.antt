@@ -1,0 +1,2 @@
+-- Why the zero test answers what the definitions do: what each of its returns leaves.
+pub mod Laws

@@ -1,0 +1,60 @@
+-- `tested` is right because the third part holds the key's value at the secret, and it looks at each of its n words.
+-- Assumes nothing.
+use Prim.Native.Nat.{ℕ, _+_, _*_, _≤_}
+use mathlib.Core.Path.{_≡_, _∙_}
+use native.Mathlib.Omega.{arith}
+use borrow.Author.Needs.{needs}
+use lib.ListN.{length}
+use Rattle.definitions.specs.Parameters.{workLength}
+use Rattle.parameters.specs.Answers.{setFrom}
+use Rattle.zero_test.proofs.Laws.{tested-refused, tested-accepted}
+use Rattle.zero_test.proofs.tested.Statement.{statement}
+use Rattle.zero_test.proofs.tested.Tie as tie
+
+cast-value : tie.Need-cast-value
+cast-value c = search needs
+
+value-requires : tie.Need-value-requires
+value-requires c κs = c .before .before .before .before .before .pre
+
+same-length : tie.Need-same-length
+same-length c = c .before .before .before .value .kept .1 .1 .1 .1 .0
+
+returns : tie.Need-returns
+returns c = tested-refused _ _ _ (c .before .before .before .value .ensures) _ (c .if1 .taken)
+
+cast-n : tie.Need-cast-n
+cast-n c = search needs
+
+mul-from : tie.Need-mul-from
+mul-from c = search needs
+
+add-end : tie.Need-add-end
+add-end c = search needs
+
+vanishes-requires : tie.Need-vanishes-requires
+unfolding workLength
+vanishes-requires c κs =
+    let room : length (c .before .before .before .before .before .value .last .1 .1 .1 .1 .0) ≡ 8 * c .before .before .before .before .before .before .before .before .before .before .before .args .p .n = c .before .before .before .before .before .value .kept .1 .1 .1 .1 .0 ∙ c .before .before .before .before .before .before .before .before .before .before .before .pre .work-length in
+    omega (arith, room)
+
+same-length-2 : tie.Need-same-length-2
+same-length-2 c = c .before .before .before .before .before .before .value .kept .1 .1 .1 .1 .0
+
+returns-2 : tie.Need-returns-2
+returns-2 c = tested-accepted _ _ _ (c .before .before .before .before .before .before .value .ensures) _ (c .before .before .before .if1 .left) (c .vanishes .ensures)
+
+pub tested-spec : {M : Type 1} → statement M
+tested-spec =
+    tie.close
+    (tie.spec
+    cast-value
+    value-requires
+    same-length
+    returns
+    cast-n
+    mul-from
+    add-end
+    vanishes-requires
+    same-length-2
+    returns-2)
