@@ -6,7 +6,7 @@ pub mod conversion;
 ghost use mathlib.Core.Path.{_≡_};
 ghost use Rattle.definitions.specs.Refusals.{firstRefusal};
 ghost use Rattle.definitions.specs.Parameters.{setTests, LimitsExit, limitsExit, LengthsExit, lengthsExit};
-ghost use Rattle.definitions.specs.Calls.{AddExit, addExit};
+ghost use Rattle.definitions.specs.Calls.{KeygenExit, keygenExit, IsZeroExit, isZeroExit, AddExit, addExit};
 ghost use Rattle.giophantus.specs.Interface.{set, limitsOf, lengthsOf};
 use parameters::LimitsAnswer;
 use parameters::Parameters;
@@ -93,6 +93,61 @@ pub extern "C" fn giophantus_lengths(
     *ciphertext = lengths::ciphertext_length(p) as u64;
     *work = lengths::work_length(p) as u64;
     0
+}
+
+// A secret key and its public key from random octets, and the octets used.
+#[no_mangle]
+pub extern "C" fn giophantus_keygen(
+    l: u32,
+    q: u32,
+    n: u32,
+    dx: u32,
+    dr: u32,
+    mlen: u32,
+    random: &[u8],
+    secret_key: &mut [u8],
+    public_key: &mut [u8],
+    work: &mut [u32],
+    used: &mut u64,
+) -> u32
+    ensures { λ r. ⌜ _≡_ {A = KeygenExit} (record { refusal = r; secret = now («secret_key» .exit); public = now («public_key» .exit); used = now (used .exit); work = now (work .exit) }) (keygenExit (set l q n dx dr mlen) (now (random .entry)) (now («secret_key» .entry)) (now («public_key» .entry)) (now (used .entry)) (now (work .entry))) ⌝ }
+{
+    let p = Parameters {
+        l,
+        q,
+        n,
+        dx,
+        dr,
+        mlen,
+    };
+    key_generation::keygen(p, random, secret_key, public_key, work, used)
+}
+
+// Whether a secret key is a zero of a public key: 1 yes, 0 no.
+#[no_mangle]
+pub extern "C" fn giophantus_is_zero(
+    l: u32,
+    q: u32,
+    n: u32,
+    dx: u32,
+    dr: u32,
+    mlen: u32,
+    secret_key: &[u8],
+    public_key: &[u8],
+    work: &mut [u32],
+    zero: &mut u32,
+) -> u32
+    ensures { λ r. ⌜ _≡_ {A = IsZeroExit} (record { refusal = r; zero = now (zero .exit); work = now (work .exit) }) (isZeroExit (set l q n dx dr mlen) (now («secret_key» .entry)) (now («public_key» .entry)) (now (zero .entry)) (now (work .entry))) ⌝ }
+{
+    let p = Parameters {
+        l,
+        q,
+        n,
+        dx,
+        dr,
+        mlen,
+    };
+    zero_test::is_zero(p, secret_key, public_key, work, zero)
 }
 
 // The sum of two ciphertexts, which may be one buffer.

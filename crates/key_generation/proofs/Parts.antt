@@ -27,7 +27,7 @@ use Rattle.draws.specs.Runs.{said, drawnAnswer}
 use Rattle.draws.specs.declared.Run.{Run}
 use Rattle.ring.specs.Work.{part, written}
 use Rattle.values.proofs.Stages.{count-most}
-use Rattle.addition.proofs.Exits.{key-degree-most}
+use Rattle.definitions.proofs.Parameters.{key-degree-most}
 use Rattle.key_generation.specs.Keys.{drawnWords}
 
 pub lent-length : (at n : ℕ) (l : List ℕ) → at + n ≤ length l → length (take (at + n - at) (drop at l)) ≡ n

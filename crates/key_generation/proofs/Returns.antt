@@ -21,7 +21,7 @@ use Rattle.definitions.specs.Calls.{KeygenExit, keyDraws, keyPairOf, keygenAnsw
 use Rattle.definitions.specs.Demand3.{AcceptedSet}
 use Rattle.definitions.proofs.Refusals.{firstRefusal-applies, firstRefusal-last}
 use Rattle.definitions.proofs.Draws.{draws-groups-le, length-candidates}
-use Rattle.addition.proofs.Exits.{exit-set, exit-length, exit-refused, exit-accepted}
+use Rattle.definitions.proofs.Exits.{exit-set, exit-length, exit-refused, exit-accepted}
 use Rattle.key_generation.specs.Keys.{Exact, keysOf, KeysWritten}
 
 pub used-room : (p : Parameters) (random : List ℕ) → secretLength p ≤ length random

@@ -22,7 +22,7 @@ use Rattle.definitions.proofs.Octets.{AllBelow}
 use Rattle.definitions.proofs.Draws.{draws-values-below}
 use Rattle.ring.specs.Work.{part}
 use Rattle.values.specs.Folding.{Sizes, flat}
-use Rattle.addition.proofs.Exits.{key-degree-most}
+use Rattle.definitions.proofs.Parameters.{key-degree-most}
 use Rattle.key_generation.specs.Keys.{drawnWords, keysOf, Ready, SecretWritten}
 use Rattle.key_generation.proofs.Parts.{elements-most, drawn-room, drawn-length}
 use Rattle.key_generation.proofs.Halves.{secretDrawn-small}

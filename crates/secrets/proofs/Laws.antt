@@ -25,7 +25,7 @@ use Rattle.definitions.proofs.Values.{value-cong}
 use Rattle.ring.specs.Work.{part}
 use Rattle.values.specs.Folding.{Sizes, flat}
 use Rattle.values.proofs.Stages.{value-cong-secret}
-use Rattle.addition.proofs.Laws.{coefficientsFit-at}
+use Rattle.definitions.proofs.Octets.{coefficientsFit-at}
 use Rattle.secrets.specs.Secrets.{Exact, Unpacked, Valued, valueFrom}
 
 module _ (p : Parameters) (d : ℕ) (secret octets : List ℕ) where

@@ -21,7 +21,8 @@ use Rattle.definitions.specs.Demand3.{AcceptedSet}
 use Rattle.definitions.proofs.Sums.{every-cong}
 use Rattle.definitions.proofs.Parameters.{Accepted, accepted-set}
 use Rattle.ring.specs.Work.{part}
-use Rattle.addition.proofs.Exits.{key-degree-most, exit-set, exit-length, exit-refused, exit-accepted}
+use Rattle.definitions.proofs.Exits.{exit-set, exit-length, exit-refused, exit-accepted}
+use Rattle.definitions.proofs.Parameters.{key-degree-most}
 use Rattle.secrets.specs.Secrets.{Exact, Valued}
 use Rattle.zero_test.specs.Tested.{Tested}
 

@@ -8,7 +8,7 @@ use Rattle.definitions.specs.Parameters.{workLength}
 use Rattle.definitions.proofs.Parameters.{Accepted, accepted-set, modulus-positive}
 use Rattle.definitions.proofs.Monomials.{monomialCount-pos}
 use Rattle.parameters.specs.Answers.{setFrom}
-use Rattle.addition.proofs.Exits.{key-degree-most}
+use Rattle.definitions.proofs.Parameters.{key-degree-most}
 use Rattle.key_generation.proofs.Parts.{elements-most, drawn-room, others-drawn}
 use Rattle.key_generation.proofs.draw_others.Statement.{statement}
 use Rattle.key_generation.proofs.draw_others.Tie as tie

@@ -13,7 +13,7 @@ use Rattle.definitions.specs.Demand3.{AcceptedSet}
 use Rattle.definitions.proofs.Parameters.{accepted-set}
 use Rattle.parameters.specs.Answers.{setFrom}
 use Rattle.draws.proofs.Runs.{said-complete, said-exhausted}
-use Rattle.addition.proofs.Exits.{key-degree-most}
+use Rattle.definitions.proofs.Parameters.{key-degree-most}
 use Rattle.key_generation.specs.Keys.{drawnWords, Exact}
 use Rattle.key_generation.proofs.Returns.{keygen-set, keygen-secret-length, keygen-public-length, keygen-work-length, keygen-short, keygen-exhausted, keygen-written, used-room}
 use Rattle.key_generation.proofs.keygen.Statement.{statement}

@@ -9,7 +9,7 @@ use Rattle.definitions.specs.Calls.{keyPairOf}
 use Rattle.definitions.proofs.Parameters.{accepted-set}
 use Rattle.definitions.proofs.Monomials.{monomialCount-pos}
 use Rattle.parameters.specs.Answers.{setFrom}
-use Rattle.addition.proofs.Exits.{key-degree-most}
+use Rattle.definitions.proofs.Parameters.{key-degree-most}
 use Rattle.key_generation.specs.Keys.{keysOf}
 use Rattle.key_generation.proofs.Writing.{ready-terms, ready-constant, ready-public}
 use Rattle.key_generation.proofs.write_keys.Statement.{statement}

@@ -7,7 +7,7 @@ use lib.ListN.{replicate}
 use Rattle.definitions.specs.Demand3.{AcceptedSet}
 use Rattle.definitions.proofs.Parameters.{accepted-set}
 use Rattle.parameters.specs.Answers.{setFrom}
-use Rattle.addition.proofs.Exits.{key-degree-most}
+use Rattle.definitions.proofs.Parameters.{key-degree-most}
 use Rattle.secrets.specs.Secrets.{Exact}
 use Rattle.zero_test.proofs.Laws.{is-zero-set, is-zero-secret-length, is-zero-public-length, is-zero-work-length, is-zero-exact, is-zero-tested}
 use Rattle.zero_test.proofs.is_zero.Statement.{statement}
