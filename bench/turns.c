@@ -32,7 +32,7 @@ static double run(const char *input, const char *program)
 
 int main(int argc, char **argv)
 {
-    double best[16];
+    double best[16] = {0};
     int rounds = argc > 3 ? atoi(argv[1]) : 0, programs = argc - 3, round, i;
 
     if (rounds < 1 || programs < 1 || programs > 16) {

@@ -93,15 +93,15 @@ pub fn small_draw(set: Set, prng: &mut Prng) -> Vec<u8> {
     packed
 }
 
-/// How many groups are dropped: none, half, or seven of eight.
-pub fn dropping(prng: &mut Prng) -> u64 {
+/// How many groups of eight are dropped: none, half, or seven.
+fn dropping(prng: &mut Prng) -> u64 {
     [0, 0, 4, 7][prng.below(4) as usize]
 }
 
 /// Exactly the random octets that keygen uses.
 pub fn keygen_random(set: Set, prng: &mut Prng) -> Vec<u8> {
-    let coefficients = (count(set.dx) - 1) * set.places();
     let eighths = dropping(prng);
+    let coefficients = (count(set.dx) - 1) * set.places();
     let mut found = small_draw(set, prng);
     found.extend(small_draw(set, prng));
     found.extend(draws(set, coefficients, eighths, prng));

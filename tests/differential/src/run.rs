@@ -36,6 +36,16 @@ pub struct Run {
 }
 
 impl Run {
+    pub fn new(seed: u64) -> Self {
+        Run {
+            prng: Prng::new(seed),
+            seed,
+            trace: false,
+            calls: 0,
+            seen: BTreeMap::new(),
+        }
+    }
+
     /// Says what is about to be called, where the run was asked to (`--trace`): the last line before
     /// a crash.
     pub fn announce(&self, call: &str, set: Set) {
@@ -169,13 +179,8 @@ pub fn run_group(
     let mut rounds = 0u64;
     let mut calls = 0;
     loop {
-        let mut run = Run {
-            prng: Prng::new(arguments.seed.wrapping_add(rounds)),
-            seed: arguments.seed.wrapping_add(rounds),
-            trace: arguments.trace,
-            calls: 0,
-            seen: BTreeMap::new(),
-        };
+        let mut run = Run::new(arguments.seed.wrapping_add(rounds));
+        run.trace = arguments.trace;
         round(&mut run);
         for &(call, list) in numbers {
             for &number in list {
