@@ -35,6 +35,27 @@ fn small_rings(run: &mut Run) {
     }
 }
 
+/// Every n from 18 to 200, and some up to 2000: each call with one set.
+fn middle_rings(run: &mut Run) {
+    let some = (0..40).map(|_| {
+        let most = 1 << (8 + run.prng.below(4));
+        200 + run.prng.below(most - 100) as u32
+    });
+    for n in (18..=200).chain(some.collect::<Vec<_>>()) {
+        let fits = |&(l, (dx, dr)): &(u32, (u32, u32))| least_q(l, n, dx + dr).is_some();
+        let list: Vec<_> = RANGES
+            .into_iter()
+            .flat_map(|l| DEGREES.map(|degrees| (l, degrees)))
+            .filter(fits)
+            .collect();
+        let (l, degrees) = list[run.prng.below(list.len() as u64) as usize];
+        let sets = sets_with(l, n, degrees, &mut run.prng);
+        let set = sets[run.prng.below(sets.len() as u64) as usize];
+        scenario::once(run, set);
+        scenario::top(run, set);
+    }
+}
+
 /// Sets with a full message and q the least, the largest and above a power of two.
 fn tight(l: u32, n: u32, (dx, dr): (u32, u32), run: &mut Run) -> Vec<Set> {
     let Some(least) = least_q(l, n, dx + dr) else {
@@ -112,6 +133,7 @@ fn main() {
     run_group("calls", &numbers, |run| {
         worked::all(run);
         small_rings(run);
+        middle_rings(run);
         headroom::all(run);
         large_rings(run);
     });
