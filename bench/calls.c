@@ -1,24 +1,16 @@
-/* The library's calls beside the same calls in C over several rings, and beside memcpy.  Results are
-   compared before anything is timed; entries take turns; each time is the minimum of all rounds.
+/* The library's calls beside the same calls in C over several rings.  Results are compared before
+   anything is timed; entries take turns; each time is the minimum of all rounds.
    Usage: calls [TIMES.csv] */
 
 #include <stdio.h>
 #include <stdlib.h>
 #include <string.h>
-#include <time.h>
 
 #include "giophantus.h"
-#include "peer.h"
-
-#define RUNS 3
-#define ROUNDS 20
-/* A slow entry leaves the turns of a row after this time. */
-#define MOST_SECONDS 4.0
+#include "timing.h"
 
 #define MAX_OCTETS ((size_t)MAX_ELEMENTS * MAX_N * 4)
 #define SET set->l, set->q, set->n, set->dx, set->dr, set->mlen
-
-static FILE *csv;
 
 /* The entries of the tables: the library first, then its peers. */
 static const struct entry {
@@ -49,7 +41,7 @@ static const struct set *set;
 static uint8_t random_octets[4 * MAX_OCTETS];
 static uint8_t secret_key[MAX_N], public_key[MAX_OCTETS], message[MAX_N / 2], ciphertext[MAX_OCTETS];
 static uint8_t out_secret_key[MAX_N], out_public_key[MAX_OCTETS], out_message[MAX_N / 2], out_octets[MAX_OCTETS];
-static uint32_t work[8 * MAX_N], words[MAX_ELEMENTS * MAX_N], out_words[MAX_ELEMENTS * MAX_N];
+static uint32_t work[8 * MAX_N];
 static uint64_t used;
 static size_t secret_length, public_length, message_length, ciphertext_length;
 
@@ -59,66 +51,10 @@ static void fail(const char *what)
     exit(1);
 }
 
-static void must(uint32_t number)
+static void must(uint32_t answer)
 {
-    if (number != 0)
+    if (answer != 0)
         fail("the library refuses");
-}
-
-/* The processor time of this thread: another program's turn on the processor doesn't count. */
-static double now(void)
-{
-    struct timespec t;
-
-    clock_gettime(CLOCK_THREAD_CPUTIME_ID, &t);
-    return (double)t.tv_sec + 1e-9 * (double)t.tv_nsec;
-}
-
-static uint64_t state = 1;
-
-static uint64_t number(void)
-{
-    uint64_t z = state += 0x9E3779B97F4A7C15u;
-
-    z = (z ^ z >> 30) * 0xBF58476D1CE4E5B9u;
-    z = (z ^ z >> 27) * 0x94D049BB133111EBu;
-    return z ^ z >> 31;
-}
-
-/* The minimum time of each entry, in turns; a negative one is left out. */
-static void take_turns(size_t count, void (*run)(size_t), double *best)
-{
-    double spent[16] = {0};
-    size_t repeats[16], i, k;
-    int round;
-
-    for (i = 0; i < count; i++) {
-        double start, time;
-
-        repeats[i] = 1;
-        if (best[i] < 0)
-            continue;
-        run(i);
-        start = now();
-        run(i);
-        time = now() - start;
-        best[i] = time;
-        if (time < 5e-5)
-            repeats[i] = (size_t)(5e-5 / (time + 1e-8)) + 1;
-    }
-    for (round = 0; round < RUNS * ROUNDS; round++)
-        for (i = 0; i < count; i++) {
-            double start = now(), time;
-
-            if (best[i] < 0 || spent[i] > MOST_SECONDS)
-                continue;
-            for (k = 0; k < repeats[i]; k++)
-                run(i);
-            time = now() - start;
-            spent[i] += time;
-            if (time / (double)repeats[i] < best[i])
-                best[i] = time / (double)repeats[i];
-        }
 }
 
 static void run_keygen(size_t i)
@@ -243,12 +179,6 @@ static void prepare(void)
     memcpy(ciphertext, out_octets, ciphertext_length);
 }
 
-static void record(const char *call, const char *entry, double seconds)
-{
-    if (csv != NULL)
-        fprintf(csv, "%s,%s,%u,%u,%u,%u,%u,%.9f\n", call, entry, set->l, set->q, set->n, set->dx, set->dr, seconds);
-}
-
 static void table_of_calls(void)
 {
     size_t i, k, m;
@@ -285,160 +215,17 @@ static void table_of_calls(void)
                 else
                     printf(" %9.1f (%6.2f)", 1e6 * best[i], best[0] / best[i]);
                 if (best[i] >= 0)
-                    record(calls[k].name, entries[i].name, best[i]);
+                    record(calls[k].name, entries[i].name, set, best[i]);
             }
             printf("\n");
             fflush(stdout);
         }
 }
 
-/* Beside memcpy: entry 0 is the library, 1 a copy of the octets, 2 a copy of the words. */
-static void *(*volatile copy)(void *, const void *, size_t) = memcpy;
-static size_t octets_length, words_length;
-
-static void copies(size_t i)
-{
-    if (i == 1)
-        copy(out_octets, ciphertext, octets_length);
-    else
-        copy(out_words, words, 4 * words_length);
-}
-
-static void run_add(size_t i)
-{
-    if (i == 0)
-        must(giophantus_add(SET, ciphertext, octets_length, public_key, octets_length, out_octets, octets_length));
-    else
-        copies(i);
-}
-
-static void run_decode(size_t i)
-{
-    if (i == 0)
-        must(giophantus_ciphertext_from_octets(SET, ciphertext, octets_length, out_words, words_length));
-    else
-        copies(i);
-}
-
-static void run_encode(size_t i)
-{
-    if (i == 0)
-        must(giophantus_ciphertext_to_octets(SET, words, words_length, out_octets, octets_length));
-    else
-        copies(i);
-}
-
-static void run_unpack(size_t i)
-{
-    if (i == 0)
-        must(giophantus_small_from_octets(SET, ciphertext, octets_length, out_words, words_length));
-    else
-        copies(i);
-}
-
-static void run_pack(size_t i)
-{
-    if (i == 0)
-        must(giophantus_small_to_octets(SET, words, words_length, out_octets, octets_length));
-    else
-        copies(i);
-}
-
-static void compare_octets(void)
-{
-    if (memcmp(out_octets, ciphertext, octets_length) != 0)
-        fail("octets differ");
-}
-
-static void compare_words(void)
-{
-    if (memcmp(out_words, words, 4 * words_length) != 0)
-        fail("words differ");
-}
-
-/* Fills words and ciphertext with one value below the limit, by plain C, and checks the library. */
-static void prepare_conversion(int small)
-{
-    uint32_t length = qlen(set), b = small_bits(set), limit = small ? set->l : set->q;
-    size_t i, k;
-
-    words_length = small ? set->n : elements(set->dx + set->dr) * set->n;
-    octets_length = small ? small_octets(set) : words_length * length;
-    memset(ciphertext, 0, octets_length);
-    for (i = 0; i < words_length; i++) {
-        words[i] = (uint32_t)(number() % limit);
-        for (k = 0; small && k < b; k++)
-            ciphertext[(i * b + k) / 8] |= (uint8_t)((words[i] >> k & 1) << (i * b + k) % 8);
-        for (k = 0; !small && k < length; k++)
-            ciphertext[i * length + k] = (uint8_t)(words[i] >> 8 * k);
-    }
-}
-
-static void row_of_copies(const char *name, void (*run)(size_t))
-{
-    double best[3] = {1, 1, 1};
-
-    take_turns(3, run, best);
-    printf("%-10s %6u %3u %6u %12.3f %12.3f (%5.2f) %12.3f (%5.2f)\n", name, set->n, set->l, qlen(set), 1e6 * best[0],
-           1e6 * best[1], best[0] / best[1], 1e6 * best[2], best[0] / best[2]);
-    record(name, "library", best[0]);
-    record(name, "memcpy of octets", best[1]);
-    record(name, "memcpy of words", best[2]);
-    fflush(stdout);
-}
-
-static void table_of_copies(void)
-{
-    static const struct set list[] = {
-        {4, 467424413, 1201, 1, 1, 2402}, {2, 8659219, 1201, 1, 1, 1201}, {2, 100679693, 4096, 1, 1, 4096},
-        {8, 33768533, 64, 1, 1, 192},     {8, 2147483647, 510, 1, 1, 1530}, {16, 2147483629, 115, 1, 1, 460},
-    };
-    size_t i, k;
-
-    printf("\n%-10s %6s %3s %6s %12s %20s %20s\n", "call", "n", "l", "qlen", "library", "memcpy of octets",
-           "memcpy of words");
-    for (i = 0; i < sizeof list / sizeof list[0]; i++) {
-        set = &list[i];
-        prepare_conversion(0);
-        memcpy(public_key, ciphertext, octets_length);
-        for (k = 0; k < words_length; k++)
-            out_words[k] = (uint32_t)(2 * (uint64_t)words[k] % set->q);
-        must(giophantus_add(SET, ciphertext, octets_length, public_key, octets_length, out_octets, octets_length));
-        for (k = 0; k < octets_length; k++)
-            if (out_octets[k] != (uint8_t)(out_words[k / qlen(set)] >> 8 * (k % qlen(set))))
-                fail("sums differ");
-        row_of_copies("add", run_add);
-        run_decode(0);
-        compare_words();
-        row_of_copies("decode", run_decode);
-        run_encode(0);
-        compare_octets();
-        row_of_copies("encode", run_encode);
-        prepare_conversion(1);
-        run_unpack(0);
-        compare_words();
-        row_of_copies("unpack", run_unpack);
-        run_pack(0);
-        compare_octets();
-        row_of_copies("pack", run_pack);
-    }
-}
-
 int main(int argc, char **argv)
 {
-    if (argc > 1) {
-        csv = fopen(argv[1], "w");
-        if (csv == NULL) {
-            perror(argv[1]);
-            return 1;
-        }
-        fprintf(csv, "call,entry,l,q,n,dx,dr,seconds\n");
-    }
+    open_times(argc > 1 ? argv[1] : NULL);
     table_of_calls();
-    table_of_copies();
-    if (csv != NULL && fclose(csv) != 0) {
-        perror(argv[1]);
-        return 1;
-    }
+    close_times();
     return 0;
 }

@@ -115,19 +115,76 @@ pub fn spoiled_number(limit: u32, bits: u32, prng: &mut Prng) -> u32 {
     }
 }
 
-/// The ways in which a call is made wrong, out of `kinds`: each alone, each pair, and `more` random
-/// choices of several. A way is a mask, bit k for kind k.
-pub fn ways(kinds: u32, more: usize, prng: &mut Prng) -> Vec<u32> {
+/// A way to make a call wrong: a mask, bit k for kind k. Kinds 0 to 4 are always the set's refusals 1 to
+/// 5.
+#[derive(Clone, Copy)]
+pub struct Way(u32);
+
+impl Way {
+    pub fn has(self, kind: u32) -> bool {
+        self.0 >> kind & 1 == 1
+    }
+
+    pub fn set(self, set: Set, prng: &mut Prng) -> Set {
+        let numbers = (1..=5).filter(|number| self.has(number - 1));
+        numbers.fold(set, |set, number| spoil_set(set, number, prng))
+    }
+
+    pub fn length(self, kind: u32, length: usize, prng: &mut Prng) -> usize {
+        match self.has(kind) {
+            true => spoil_length(length, prng),
+            false => length,
+        }
+    }
+
+    pub fn input(self, kind: u32, input: &mut Vec<u8>, prng: &mut Prng) {
+        if self.has(kind) {
+            spoil_input(input, prng);
+        }
+    }
+
+    pub fn coefficient(self, kind: u32, set: Set, octets: &mut [u8], prng: &mut Prng) {
+        if self.has(kind) {
+            spoil_coefficient(set, octets, prng);
+        }
+    }
+
+    /// Padding of the first half, of the second, or of both.
+    pub fn padding(self, kind: u32, set: Set, secret_key: &mut [u8], prng: &mut Prng) {
+        let used_bits = set.places() * set.b() as usize;
+        for (half, packed) in secret_key.chunks_mut(set.small_octets()).enumerate() {
+            if self.has(kind + half as u32) {
+                spoil_padding(packed, used_bits, prng);
+            }
+        }
+    }
+
+    /// Random octets cut anywhere, by one, or to none.
+    pub fn random(self, kind: u32, random: &mut Vec<u8>, prng: &mut Prng) {
+        if self.has(kind) {
+            let length = random.len();
+            random.truncate(match prng.below(3) {
+                0 => 0,
+                1 => length - 1,
+                _ => prng.below(length as u64) as usize,
+            });
+        }
+    }
+}
+
+/// The ways in which a call of so many kinds is made wrong: each kind alone, each pair, and `more`
+/// random choices of several.
+pub fn ways(kinds: u32, more: usize, prng: &mut Prng) -> Vec<Way> {
     let mut list = Vec::new();
     for first in 0..kinds {
-        list.push(1 << first);
+        list.push(Way(1 << first));
         for second in 0..first {
-            list.push(1 << first | 1 << second);
+            list.push(Way(1 << first | 1 << second));
         }
     }
     for _ in 0..more {
         let mask = (prng.number() & prng.number()) as u32 & ((1 << kinds) - 1);
-        list.push(mask);
+        list.push(Way(mask));
     }
     list
 }

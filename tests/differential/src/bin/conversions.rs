@@ -5,7 +5,7 @@ use differential::inputs;
 use differential::run::{run_group, Run};
 use differential::sets::{sets_with, DEGREES, MOST_Q, RANGES};
 use differential::spoil::{
-    spoil_coefficient, spoil_input, spoil_length, spoil_padding, spoil_set, spoiled_number, ways,
+    spoil_coefficient, spoil_input, spoil_length, spoil_padding, spoiled_number, ways,
 };
 use reference::octets::{numbers_to_octets, pack};
 use reference::Set;
@@ -105,31 +105,27 @@ fn refusals(run: &mut Run, set: Set, kind: Kind, more: usize) {
     let words = inputs::below(limit(kind, set), kind.words(set), &mut run.prng);
     let octets = octets_of(kind, set, &words);
     for way in ways(9, more, &mut run.prng) {
-        let has = |k: u32| way >> k & 1 == 1;
         let prng = &mut run.prng;
         let mut given = octets.clone();
         let mut words = words.clone();
-        if has(7) && kind == Kind::Small {
+        if way.has(7) && kind == Kind::Small {
             spoil_padding(&mut given, set.places() * set.b() as usize, prng);
         }
-        if has(8) {
+        if way.has(8) {
             if kind != Kind::Small {
                 spoil_coefficient(set, &mut given, prng);
             }
             let place = prng.below(words.len() as u64) as usize;
             words[place] = spoiled_number(limit(kind, set), 32, prng);
         }
-        let mut wrong = set;
-        for number in (1..=5).filter(|number| has(number - 1)) {
-            wrong = spoil_set(wrong, number, prng);
-        }
+        let wrong = way.set(set, prng);
         let (mut octets_length, mut words_length) = (given.len(), words.len());
-        if has(5) {
+        if way.has(5) {
             spoil_input(&mut given, prng);
             octets_length = spoil_length(octets_length, prng);
         }
         let mut words_given = words.clone();
-        if has(6) {
+        if way.has(6) {
             words_length = spoil_length(words_length, prng);
             words_given.resize(words_length, 0);
         }

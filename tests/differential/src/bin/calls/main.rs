@@ -1,5 +1,6 @@
 //! keygen, is_zero, encrypt, add and decrypt beside the reference implementation.
 
+mod additions;
 mod headroom;
 mod refusals;
 mod scenario;

@@ -1,86 +1,29 @@
 //! Every refusal of each call at its boundary, alone, in pairs and several at once. Kinds 0 to 4
-//! are always the set's refusals 1 to 5.
+//! are the set's refusals 1 to 5.
 
 use differential::compare::{
-    add, decrypt, double, encrypt, is_zero, keygen, DecryptLengths, EncryptLengths, KeygenLengths,
+    decrypt, encrypt, is_zero, keygen, DecryptLengths, EncryptLengths, KeygenLengths,
 };
 use differential::inputs;
 use differential::run::Run;
-use differential::spoil::{
-    spoil_coefficient, spoil_input, spoil_length, spoil_padding, spoil_set, ways,
-};
-use reference::prng::Prng;
+use differential::spoil::{spoil_padding, ways};
 use reference::Set;
+
+use crate::additions;
 
 pub fn all(run: &mut Run, set: Set, more: usize) {
     keygens(run, set, more);
     zero_tests(run, set, more);
     encryptions(run, set, more);
-    additions(run, set, more);
+    additions::refusals(run, set, more);
     decryptions(run, set, more);
-}
-
-/// Which kinds of a way are in it.
-#[derive(Clone, Copy)]
-struct Way(u32);
-
-impl Way {
-    fn has(self, kind: u32) -> bool {
-        self.0 >> kind & 1 == 1
-    }
-
-    fn set(self, set: Set, prng: &mut Prng) -> Set {
-        let numbers = (1..=5).filter(|number| self.has(number - 1));
-        numbers.fold(set, |set, number| spoil_set(set, number, prng))
-    }
-
-    fn length(self, kind: u32, length: usize, prng: &mut Prng) -> usize {
-        match self.has(kind) {
-            true => spoil_length(length, prng),
-            false => length,
-        }
-    }
-
-    fn input(self, kind: u32, input: &mut Vec<u8>, prng: &mut Prng) {
-        if self.has(kind) {
-            spoil_input(input, prng);
-        }
-    }
-
-    fn coefficient(self, kind: u32, set: Set, octets: &mut [u8], prng: &mut Prng) {
-        if self.has(kind) {
-            spoil_coefficient(set, octets, prng);
-        }
-    }
-
-    /// Padding of the first half, of the second, or of both.
-    fn padding(self, kind: u32, set: Set, secret_key: &mut [u8], prng: &mut Prng) {
-        let used_bits = set.places() * set.b() as usize;
-        for (half, packed) in secret_key.chunks_mut(set.small_octets()).enumerate() {
-            if self.has(kind + half as u32) {
-                spoil_padding(packed, used_bits, prng);
-            }
-        }
-    }
-
-    /// Random octets cut anywhere, by one, or to none.
-    fn random(self, kind: u32, random: &mut Vec<u8>, prng: &mut Prng) {
-        if self.has(kind) {
-            let length = random.len();
-            random.truncate(match prng.below(3) {
-                0 => 0,
-                1 => length - 1,
-                _ => prng.below(length as u64) as usize,
-            });
-        }
-    }
 }
 
 /// 5 to 7: secret key, public key, work; 8: random octets.
 fn keygens(run: &mut Run, set: Set, more: usize) {
     let random = inputs::keygen_random(set, &mut run.prng);
     for way in ways(9, more, &mut run.prng) {
-        let (way, prng) = (Way(way), &mut run.prng);
+        let prng = &mut run.prng;
         let right = KeygenLengths::of(set);
         let lengths = KeygenLengths {
             secret_key: way.length(5, right.secret_key, prng),
@@ -99,7 +42,7 @@ fn zero_tests(run: &mut Run, set: Set, more: usize) {
     let secret = inputs::secret_key(set, &mut run.prng);
     let public = inputs::public_key(set, &mut run.prng);
     for way in ways(11, more, &mut run.prng) {
-        let (way, prng) = (Way(way), &mut run.prng);
+        let prng = &mut run.prng;
         let (mut secret_key, mut public_key) = (secret.clone(), public.clone());
         way.padding(8, set, &mut secret_key, prng);
         way.coefficient(10, set, &mut public_key, prng);
@@ -118,7 +61,7 @@ fn encryptions(run: &mut Run, set: Set, more: usize) {
     let m = inputs::message(set, &mut run.prng);
     let (drawn, _) = inputs::encrypt_random(set, &mut run.prng);
     for way in ways(12, more, &mut run.prng) {
-        let (way, prng) = (Way(way), &mut run.prng);
+        let prng = &mut run.prng;
         let (mut public_key, mut message) = (public.clone(), m.clone());
         if way.has(9) {
             spoil_padding(&mut message, set.mlen as usize, prng);
@@ -138,31 +81,13 @@ fn encryptions(run: &mut Run, set: Set, more: usize) {
     }
 }
 
-/// 5 to 7: both summands and the sum; 8 and 9: a coefficient of each summand.
-fn additions(run: &mut Run, set: Set, more: usize) {
-    let first = inputs::ciphertext(set, &mut run.prng);
-    let second = inputs::ciphertext(set, &mut run.prng);
-    for way in ways(10, more, &mut run.prng) {
-        let (way, prng) = (Way(way), &mut run.prng);
-        let (mut a, mut b) = (first.clone(), second.clone());
-        way.coefficient(8, set, &mut a, prng);
-        way.coefficient(9, set, &mut b, prng);
-        way.input(5, &mut a, prng);
-        way.input(6, &mut b, prng);
-        let sum = way.length(7, set.ciphertext_octets(), prng);
-        let wrong = way.set(set, prng);
-        add(run, wrong, &a, &b, sum);
-        double(run, wrong, &a, sum);
-    }
-}
-
 /// 5 to 8: secret key, ciphertext, message, work; 9 and 10: padding of each half; 11: a
 /// coefficient; 12: a ciphertext that decrypts to something past mlen.
 fn decryptions(run: &mut Run, set: Set, more: usize) {
     let secret = inputs::secret_key(set, &mut run.prng);
     let constant = set.ciphertext_octets() - set.element_octets();
     for way in ways(13, more, &mut run.prng) {
-        let (way, prng) = (Way(way), &mut run.prng);
+        let prng = &mut run.prng;
         let mut secret_key = secret.clone();
         let mut ciphertext = vec![0; set.ciphertext_octets()];
         if way.has(12) {

@@ -3,14 +3,15 @@
 //! implementation are held to that as well.
 
 use differential::compare::{
-    add, decrypt, double, encrypt, is_zero, keygen, DecryptLengths, EncryptLengths, KeygenLengths,
-    Keys,
+    decrypt, double, encrypt, is_zero, keygen, DecryptLengths, EncryptLengths, KeygenLengths, Keys,
 };
 use differential::inputs;
 use differential::run::Run;
 use reference::monomials::count;
 use reference::octets::{numbers_from_octets, numbers_to_octets, pack};
 use reference::Set;
+
+use crate::additions;
 
 /// Everything.
 pub fn all(run: &mut Run, set: Set) {
@@ -19,7 +20,7 @@ pub fn all(run: &mut Run, set: Set) {
     let ciphertexts = encryptions(run, set, &keys);
     tails(run, set, &keys);
     other_ciphertexts(run, set, &keys);
-    additions(run, set, &ciphertexts);
+    additions::sums(run, set, &ciphertexts);
 }
 
 /// Each call once, and once more with random octets that are one short.
@@ -35,7 +36,7 @@ pub fn once(run: &mut Run, set: Set) {
     let short = &random[..random.len() - 1];
     encrypt_short(run, set, &keys, &message, short);
     decrypt_to(run, set, &keys, &ciphertext, &message);
-    additions(run, set, &[ciphertext]);
+    additions::sums(run, set, &[ciphertext]);
 }
 
 /// Every coefficient at its top, for sums that must not wrap.
@@ -288,29 +289,4 @@ fn other_ciphertexts(run: &mut Run, set: Set, keys: &Keys) {
     let small: Vec<u32> = w.iter().map(|x| x % set.l).collect();
     let right = number == 0 && message == pack(set.b(), &small, whole.message_octets());
     run.expect(right, whole, "w is taken from 0 to q - 1, then modulo l");
-}
-
-/// Sums of these and other ciphertexts, one with itself in one buffer, and sums of exactly q.
-fn additions(run: &mut Run, set: Set, ciphertexts: &[Vec<u8>]) {
-    let length = set.ciphertext_octets();
-    let any = inputs::ciphertext(set, &mut run.prng);
-    for a in ciphertexts.iter().chain([&any]) {
-        let (number, twice) = double(run, set, a, length);
-        run.expect(number == 0, set, "a ciphertext is added to itself");
-        let (number, same) = add(run, set, a, a, length);
-        let right = number == 0 && same == twice;
-        run.expect(right, set, "one buffer or two");
-        for b in [&any, &twice] {
-            let (number, sum) = add(run, set, a, b, length);
-            let (again, other) = add(run, set, b, a, length);
-            let right = (number, again) == (0, 0) && sum == other;
-            run.expect(right, set, "a + b is b + a");
-        }
-        let words = numbers_from_octets(set.qlen(), a);
-        let negative: Vec<u32> = words.iter().map(|x| (set.q - x) % set.q).collect();
-        let negative = numbers_to_octets(set.qlen(), &negative);
-        let (number, sum) = add(run, set, a, &negative, length);
-        let right = number == 0 && sum.iter().all(|&octet| octet == 0);
-        run.expect(right, set, "a sum of q is 0");
-    }
 }
