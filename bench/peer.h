@@ -1,0 +1,36 @@
+/* The calls of document 01 in plain C over any of the rings of ring.h: what the library is measured
+   against.  Inputs are trusted; nothing is refused. */
+
+#ifndef PEER_H
+#define PEER_H
+
+#include <stddef.h>
+#include <stdint.h>
+
+#include "ring.h"
+
+#define MAX_N 4096
+#define MAX_ELEMENTS 15
+
+struct set {
+    uint32_t l, q, n, dx, dr, mlen;
+};
+
+/* Lengths in octets, monomials and bits of an accepted set. */
+size_t elements(uint32_t degree);
+size_t small_octets(const struct set *s);
+size_t element_octets(const struct set *s);
+uint32_t qlen(const struct set *s);
+uint32_t small_bits(const struct set *s);
+
+/* The ring has been started with the set's n and q.  Keygen and encrypt answer the octets used. */
+uint64_t peer_keygen(const struct ring *r, const struct set *s, const uint8_t *random, uint8_t *secret_key,
+                     uint8_t *public_key);
+int peer_is_zero(const struct ring *r, const struct set *s, const uint8_t *secret_key, const uint8_t *public_key);
+/* Shared: 6 products for 9 (21 for 36), for dX = dr. */
+uint64_t peer_encrypt(const struct ring *r, int shared, const struct set *s, const uint8_t *public_key,
+                      const uint8_t *message, const uint8_t *random, uint8_t *ciphertext);
+void peer_decrypt(const struct ring *r, const struct set *s, const uint8_t *secret_key, const uint8_t *ciphertext,
+                  uint8_t *message);
+
+#endif

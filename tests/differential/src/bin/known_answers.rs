@@ -1,0 +1,776 @@
+//! Writes the known-answer files: every call on small sets and on n = 1201 and 4096, successes and
+//! each refusal. Each answer is the library's, and the reference implementation gave the same.
+//!
+//! Usage: known_answers DIRECTORY
+
+use std::fmt::Write;
+use std::path::Path;
+use std::{env, fs, process};
+
+use differential::compare::{
+    self, DecryptLengths, EncryptLengths, Encrypted, KeygenLengths, Keys, Kind, KINDS,
+};
+use differential::inputs;
+use differential::run::Run;
+use differential::sets::MOST_Q;
+use reference::octets::{numbers_from_octets, numbers_to_octets, pack};
+use reference::set::{bit_length, bound};
+use reference::Set;
+
+const SEED: u64 = 0x4B41_5453;
+
+const fn set(l: u32, q: u32, n: u32, dx: u32, dr: u32, mlen: u32) -> Set {
+    Set {
+        l,
+        q,
+        n,
+        dx,
+        dr,
+        mlen,
+    }
+}
+
+/// Document 01's set A.
+const A: Set = set(4, 1459, 2, 1, 1, 4);
+/// A set with unused bits in every packed element and in the message.
+const PADDED: Set = set(8, 1_048_573, 9, 1, 1, 21);
+
+/// Every l, every pair of degrees, every number of octets; messages empty, partial and full.
+const SMALL: [Set; 14] = [
+    A,
+    PADDED,
+    set(2, 37, 2, 1, 1, 2),
+    set(2, 251, 3, 1, 1, 1),
+    set(2, 257, 6, 1, 1, 5),
+    set(2, 1_000_003, 9, 2, 1, 0),
+    set(2, 16_777_213, 7, 1, 2, 5),
+    set(4, 65_536, 5, 1, 1, 8),
+    set(4, MOST_Q, 9, 2, 2, 0),
+    set(8, MOST_Q, 7, 2, 2, 18),
+    set(8, 2_147_483_646, 11, 2, 1, 33),
+    set(16, 16_777_215, 8, 1, 1, 32),
+    set(16, 1_073_741_827, 5, 1, 2, 16),
+    set(16, MOST_Q, 2, 2, 2, 8),
+];
+
+const LARGE: [(&str, Set); 2] = [
+    ("n1201", set(4, 467_424_413, 1201, 1, 1, 2402)),
+    ("n4096", set(2, 100_679_693, 4096, 1, 1, 4000)),
+];
+
+fn hex(octets: &[u8]) -> String {
+    octets.iter().fold(String::new(), |mut text, octet| {
+        write!(text, "{octet:02X}").expect("a string");
+        text
+    })
+}
+
+fn hex_words(words: &[u32]) -> String {
+    words.iter().fold(String::new(), |mut text, word| {
+        write!(text, "{word:08X}").expect("a string");
+        text
+    })
+}
+
+/// A file: its name without the ending, and its records.
+struct Answers {
+    name: &'static str,
+    run: Run,
+    text: String,
+    count: usize,
+}
+
+type Field = (&'static str, String);
+
+impl Answers {
+    fn new(name: &'static str) -> Self {
+        Answers {
+            name,
+            run: Run::new(SEED),
+            text: format!("# Giophantus, known answers: {name}\n"),
+            count: 0,
+        }
+    }
+
+    /// One record: the call, the set, what is given, the answer, and at success what is written.
+    fn record(&mut self, call: &str, set: Set, given: &[Field], number: u32, written: &[Field]) {
+        let numbers = [
+            ("l", set.l),
+            ("q", set.q),
+            ("n", set.n),
+            ("dx", set.dx),
+            ("dr", set.dr),
+            ("mlen", set.mlen),
+        ];
+        let mut line = |name: &str, value: &str| {
+            writeln!(self.text, "{name} = {value}").expect("a string");
+        };
+        line("\ncount", &self.count.to_string());
+        line("call", call);
+        for (name, value) in numbers {
+            line(name, &value.to_string());
+        }
+        for (name, value) in given {
+            line(name, value);
+        }
+        line("answer", &number.to_string());
+        for (name, value) in written.iter().filter(|_| number == 0) {
+            line(name, value);
+        }
+        self.count += 1;
+    }
+
+    fn limits(&mut self, set: Set) {
+        let number = compare::check(&mut self.run, set);
+        self.record("check", set, &[], number, &[]);
+        let (number, bound, headroom) = compare::limits(&mut self.run, set);
+        let written = [
+            ("bound", bound.to_string()),
+            ("headroom", headroom.to_string()),
+        ];
+        self.record("limits", set, &[], number, &written);
+        let (number, lengths) = compare::lengths(&mut self.run, set);
+        let names = ["secret_key", "public_key", "message", "ciphertext", "work"];
+        let written: Vec<Field> = names
+            .into_iter()
+            .zip(lengths.map(|x| x.to_string()))
+            .collect();
+        self.record("lengths", set, &[], number, &written);
+    }
+
+    fn keygen(&mut self, set: Set, random: &[u8], lengths: KeygenLengths) -> Keys {
+        let keys = compare::keygen(&mut self.run, set, random, lengths);
+        let given = [
+            ("random", hex(random)),
+            ("secret_key_len", lengths.secret_key.to_string()),
+            ("public_key_len", lengths.public_key.to_string()),
+            ("work_len", lengths.work.to_string()),
+        ];
+        let written = [
+            ("secret_key", hex(&keys.secret_key)),
+            ("public_key", hex(&keys.public_key)),
+            ("used", keys.used.to_string()),
+        ];
+        self.record("keygen", set, &given, keys.number, &written);
+        keys
+    }
+
+    fn is_zero(&mut self, set: Set, secret_key: &[u8], public_key: &[u8], work: usize) {
+        let (number, zero) = compare::is_zero(&mut self.run, set, secret_key, public_key, work);
+        let given = [
+            ("secret_key", hex(secret_key)),
+            ("public_key", hex(public_key)),
+            ("work_len", work.to_string()),
+        ];
+        self.record(
+            "is_zero",
+            set,
+            &given,
+            number,
+            &[("zero", zero.to_string())],
+        );
+    }
+
+    fn encrypt(
+        &mut self,
+        set: Set,
+        public_key: &[u8],
+        message: &[u8],
+        random: &[u8],
+        lengths: EncryptLengths,
+    ) -> Encrypted {
+        let run = &mut self.run;
+        let made = compare::encrypt(run, set, public_key, message, random, lengths);
+        let given = [
+            ("public_key", hex(public_key)),
+            ("message", hex(message)),
+            ("random", hex(random)),
+            ("ciphertext_len", lengths.ciphertext.to_string()),
+            ("work_len", lengths.work.to_string()),
+        ];
+        let written = [
+            ("ciphertext", hex(&made.ciphertext)),
+            ("used", made.used.to_string()),
+        ];
+        self.record("encrypt", set, &given, made.number, &written);
+        made
+    }
+
+    fn add(&mut self, set: Set, a: &[u8], b: &[u8], sum: usize) {
+        let (number, got) = compare::add(&mut self.run, set, a, b, sum);
+        let given = [("a", hex(a)), ("b", hex(b)), ("sum_len", sum.to_string())];
+        self.record("add", set, &given, number, &[("sum", hex(&got))]);
+    }
+
+    /// Both summands in one buffer.
+    fn double(&mut self, set: Set, a: &[u8], sum: usize) {
+        let (number, got) = compare::double(&mut self.run, set, a, sum);
+        let given = [
+            ("a", hex(a)),
+            ("b", "same".to_string()),
+            ("sum_len", sum.to_string()),
+        ];
+        self.record("add", set, &given, number, &[("sum", hex(&got))]);
+    }
+
+    fn decrypt(&mut self, set: Set, secret_key: &[u8], ciphertext: &[u8], lengths: DecryptLengths) {
+        let run = &mut self.run;
+        let (number, message) = compare::decrypt(run, set, secret_key, ciphertext, lengths);
+        let given = [
+            ("secret_key", hex(secret_key)),
+            ("ciphertext", hex(ciphertext)),
+            ("message_len", lengths.message.to_string()),
+            ("work_len", lengths.work.to_string()),
+        ];
+        let written = [("message", hex(&message))];
+        self.record("decrypt", set, &given, number, &written);
+    }
+
+    fn octets_to_words(&mut self, set: Set, kind: Kind, octets: &[u8], words: usize) {
+        let (number, got) = compare::from_octets(&mut self.run, set, kind, octets, words);
+        let given = [("octets", hex(octets)), ("words_len", words.to_string())];
+        let written = [("words", hex_words(&got))];
+        self.record(kind.from_name(), set, &given, number, &written);
+    }
+
+    fn words_to_octets(&mut self, set: Set, kind: Kind, words: &[u32], octets: usize) {
+        let (number, got) = compare::to_octets(&mut self.run, set, kind, words, octets);
+        let given = [
+            ("words", hex_words(words)),
+            ("octets_len", octets.to_string()),
+        ];
+        let written = [("octets", hex(&got))];
+        self.record(kind.to_name(), set, &given, number, &written);
+    }
+
+    fn write(self, directory: &Path) {
+        let path = directory.join(format!("{}.rsp", self.name));
+        if let Err(error) = fs::write(&path, &self.text) {
+            eprintln!("{}: {error}", path.display());
+            process::exit(1);
+        }
+        println!("{}.rsp: {} records", self.name, self.count);
+    }
+}
+
+/// Sets refused by 1 to 5, at both sides of each limit, and by several numbers at once.
+fn refused_sets() -> Vec<Set> {
+    let mut list = Vec::new();
+    for l in [0, 1, 3, 5, 17, u32::MAX] {
+        list.push(Set { l, ..A });
+    }
+    for n in [0, 1, 4097, u32::MAX] {
+        list.push(Set { n, ..A });
+    }
+    for (dx, dr) in [(0, 1), (1, 0), (3, 1), (1, 3), (u32::MAX, 3)] {
+        list.push(Set { dx, dr, ..A });
+    }
+    for q in [0, 1454, 1455, MOST_Q + 1, u32::MAX] {
+        list.push(Set { q, ..A });
+    }
+    for mlen in [1, 3, 5, 6, u32::MAX] {
+        list.push(Set { mlen, ..A });
+    }
+    list.push(set(16, MOST_Q, 4096, 2, 2, 0));
+    list.push(set(4, 467_424_411, 1201, 1, 1, 2402));
+    list.push(set(2, 100_679_683, 4096, 1, 1, 0));
+    // The bound passes 32 bits and is small modulo 2^32.
+    for (l, d) in [(2, 3), (4, 2), (8, 4), (16, 3)] {
+        let wraps = |&n: &u32| {
+            let at = bound(l, n, d);
+            at >> 32 != 0 && at % (1 << 32) < u128::from(MOST_Q)
+        };
+        let n = (2..4096).find(wraps).expect("some n");
+        list.push(set(l, MOST_Q, n, d / 2, d - d / 2, 0));
+    }
+    list.push(set(4, u32::MAX, 2, 0, 1, 99));
+    list.push(set(3, 0, 0, 0, 0, 99));
+    list.push(set(4, 0, 1, 0, 0, 99));
+    list.push(set(4, 0, 2, 0, 0, 99));
+    list.push(set(4, 0, 2, 1, 1, 99));
+    list
+}
+
+/// One refused set for each number from 1 to 5, and all five at once.
+fn five_refusals() -> [Set; 6] {
+    [
+        Set { l: 3, ..A },
+        Set { n: 1, ..A },
+        Set { dr: 3, ..A },
+        Set { q: 1455, ..A },
+        Set { mlen: 3, ..A },
+        set(3, 0, 1, 0, 0, 99),
+    ]
+}
+
+fn limits(directory: &Path) {
+    let mut file = Answers::new("limits");
+    for set in SMALL.into_iter().chain(LARGE.map(|(_, set)| set)) {
+        file.limits(set);
+    }
+    // Headroom at both sides of a multiple of the bound; the least accepted q.
+    for q in [1456, 2909, 2910, 2911, 65_521, MOST_Q] {
+        file.limits(Set { q, ..A });
+    }
+    file.limits(set(2, 100_679_684, 4096, 1, 1, 0));
+    for set in refused_sets() {
+        file.limits(set);
+    }
+    file.write(directory);
+}
+
+/// The random octets of document 01's cases 2 and 3.
+const KEY_RANDOM: [u8; 10] = [9, 4, 5, 0, 7, 0, 0x64, 0, 1, 0];
+const RANDOM: [u8; 18] = [1, 0, 0, 0, 0, 0, 0, 0, 0, 0, 1, 0, 1, 0, 8, 0x0F, 0, 9];
+
+fn keygens(directory: &Path) {
+    let mut file = Answers::new("keygen");
+    file.keygen(A, &KEY_RANDOM, KeygenLengths::of(A));
+    file.keygen(A, &KEY_RANDOM[..9], KeygenLengths::of(A));
+    for set in SMALL {
+        let lengths = KeygenLengths::of(set);
+        let random = inputs::keygen_random(set, &mut file.run.prng);
+        file.keygen(set, &random, lengths);
+        let longer = [random.clone(), file.run.prng.octets(3)].concat();
+        file.keygen(set, &longer, lengths);
+        file.keygen(set, &random[..random.len() - 1], lengths);
+        // The octets end with a dropped group.
+        let start = random.len() - set.qlen();
+        let dropped = inputs::dropped_group(set, &mut file.run.prng);
+        file.keygen(set, &[&random[..start], &dropped].concat(), lengths);
+    }
+    file.keygen(A, &[], KeygenLengths::of(A));
+    for set in five_refusals() {
+        file.keygen(set, &KEY_RANDOM, KeygenLengths::of(A));
+    }
+    for set in [A, PADDED] {
+        let right = KeygenLengths::of(set);
+        let random = inputs::keygen_random(set, &mut file.run.prng);
+        for by in [-1, 1] {
+            for which in 0..3 {
+                let mut lengths = right;
+                let one = match which {
+                    0 => &mut lengths.secret_key,
+                    1 => &mut lengths.public_key,
+                    _ => &mut lengths.work,
+                };
+                *one = one.saturating_add_signed(by);
+                file.keygen(set, &random, lengths);
+            }
+        }
+    }
+    // 6 before 9, 5 before 6.
+    let lengths = KeygenLengths {
+        secret_key: 3,
+        work: 0,
+        ..KeygenLengths::of(A)
+    };
+    file.keygen(A, &[], lengths);
+    file.keygen(Set { mlen: 3, ..A }, &[], lengths);
+    file.write(directory);
+}
+
+/// Keys made by the library, not recorded.
+fn keys_of(file: &mut Answers, set: Set) -> Keys {
+    let random = inputs::keygen_random(set, &mut file.run.prng);
+    compare::keygen(&mut file.run, set, &random, KeygenLengths::of(set))
+}
+
+/// A coefficient of q in place of the first one; in place of the last one a number whose low bits, as
+/// many as q has, are 1, or q itself where qlen octets don't hold that.
+fn with_q(set: Set, octets: &[u8], last: bool) -> Vec<u8> {
+    let (bits, qlen) = (bit_length(set.q), set.qlen());
+    let mut wrong = octets.to_vec();
+    let (start, number) = match last {
+        false => (0, set.q),
+        true if bits as usize == 8 * qlen => (wrong.len() - qlen, set.q),
+        true => (wrong.len() - qlen, (1 << bits) + 1),
+    };
+    wrong[start..][..qlen].copy_from_slice(&number.to_le_bytes()[..qlen]);
+    wrong
+}
+
+/// The highest bit of an octet set.
+fn with_top_bit(octets: &[u8], at: usize) -> Vec<u8> {
+    let mut wrong = octets.to_vec();
+    wrong[at] |= 0x80;
+    wrong
+}
+
+/// One octet fewer, one more.
+fn wrong_lengths(octets: &[u8]) -> [Vec<u8>; 2] {
+    [
+        octets[..octets.len().saturating_sub(1)].to_vec(),
+        [octets, &[0]].concat(),
+    ]
+}
+
+fn zero_tests(directory: &Path) {
+    let mut file = Answers::new("is_zero");
+    for set in SMALL {
+        let keys = keys_of(&mut file, set);
+        let other = inputs::secret_key(set, &mut file.run.prng);
+        let zeros = vec![0; set.public_key_octets()];
+        let work = set.work_words();
+        file.is_zero(set, &keys.secret_key, &keys.public_key, work);
+        file.is_zero(set, &other, &keys.public_key, work);
+        file.is_zero(set, &other, &zeros, work);
+        // A value that is zero but for its first place, and but for its last.
+        for place in [
+            set.public_key_words() - set.places(),
+            set.public_key_words() - 1,
+        ] {
+            let mut words = numbers_from_octets(set.qlen(), &keys.public_key);
+            words[place] = (words[place] + 1) % set.q;
+            let public_key = numbers_to_octets(set.qlen(), &words);
+            file.is_zero(set, &keys.secret_key, &public_key, work);
+        }
+    }
+    let keys = keys_of(&mut file, A);
+    for set in five_refusals() {
+        file.is_zero(set, &keys.secret_key, &keys.public_key, A.work_words());
+    }
+    for set in [A, PADDED] {
+        let Keys {
+            secret_key,
+            public_key,
+            ..
+        } = keys_of(&mut file, set);
+        let (half, work) = (set.small_octets(), set.work_words());
+        for wrong in wrong_lengths(&secret_key) {
+            file.is_zero(set, &wrong, &public_key, work);
+        }
+        for wrong in wrong_lengths(&public_key) {
+            file.is_zero(set, &secret_key, &wrong, work);
+        }
+        file.is_zero(set, &secret_key, &public_key, work - 1);
+        file.is_zero(set, &secret_key, &public_key, work + 1);
+        let padded = [
+            with_top_bit(&secret_key, half - 1),
+            with_top_bit(&secret_key, 2 * half - 1),
+        ];
+        for wrong in &padded {
+            file.is_zero(set, wrong, &public_key, work);
+        }
+        for last in [false, true] {
+            let wrong = with_q(set, &public_key, last);
+            file.is_zero(set, &secret_key, &wrong, work);
+            // 7 before 8, 6 before 7.
+            file.is_zero(set, &padded[1], &wrong, work);
+            file.is_zero(set, &padded[1], &wrong, 0);
+        }
+    }
+    file.write(directory);
+}
+
+fn encryptions(directory: &Path) {
+    let mut file = Answers::new("encrypt");
+    let worked = compare::keygen(&mut file.run, A, &KEY_RANDOM, KeygenLengths::of(A));
+    let (key, right) = (worked.public_key, EncryptLengths::of(A));
+    // Document 01's cases 3, 5 and 6.
+    file.encrypt(A, &key, &[0x0E], &RANDOM, right);
+    let mut random = RANDOM;
+    random[1] = 8;
+    file.encrypt(A, &key, &[0x0E], &random, right);
+    let random = [[0xB3, 0x05].as_slice(), &RANDOM].concat();
+    file.encrypt(A, &key, &[0x0E], &random, right);
+    file.encrypt(A, &key, &[0x0E], &RANDOM[..17], right);
+    for set in SMALL {
+        let keys = keys_of(&mut file, set);
+        let lengths = EncryptLengths::of(set);
+        let message = inputs::message(set, &mut file.run.prng);
+        let (random, for_r) = inputs::encrypt_random(set, &mut file.run.prng);
+        let longer = [random.clone(), file.run.prng.octets(3)].concat();
+        file.encrypt(set, &keys.public_key, &message, &longer, lengths);
+        for length in [random.len() - 1, for_r, for_r - 1] {
+            let short = &random[..length];
+            file.encrypt(set, &keys.public_key, &message, short, lengths);
+        }
+    }
+    for set in five_refusals() {
+        file.encrypt(set, &key, &[0x0E], &RANDOM, right);
+    }
+    for set in [A, PADDED] {
+        let key = keys_of(&mut file, set).public_key;
+        let right = EncryptLengths::of(set);
+        let message = inputs::message(set, &mut file.run.prng);
+        let (random, _) = inputs::encrypt_random(set, &mut file.run.prng);
+        for wrong in wrong_lengths(&key) {
+            file.encrypt(set, &wrong, &message, &random, right);
+        }
+        for wrong in wrong_lengths(&message) {
+            file.encrypt(set, &key, &wrong, &random, right);
+        }
+        for by in [-1, 1] {
+            let ciphertext = right.ciphertext.saturating_add_signed(by);
+            let work = right.work.saturating_add_signed(by);
+            let lengths = EncryptLengths {
+                ciphertext,
+                ..right
+            };
+            file.encrypt(set, &key, &message, &random, lengths);
+            let lengths = EncryptLengths { work, ..right };
+            file.encrypt(set, &key, &message, &random, lengths);
+        }
+        let padded = with_top_bit(&message, message.len() - 1);
+        file.encrypt(set, &key, &padded, &random, right);
+        for last in [false, true] {
+            let wrong = with_q(set, &key, last);
+            file.encrypt(set, &wrong, &message, &random, right);
+            // 7 before 8, 8 before 9, 6 before all of them.
+            file.encrypt(set, &wrong, &padded, &[], right);
+            file.encrypt(set, &wrong, &message, &[], right);
+            let lengths = EncryptLengths { work: 0, ..right };
+            file.encrypt(set, &wrong, &padded, &[], lengths);
+        }
+        file.encrypt(set, &key, &padded, &[], right);
+    }
+    file.write(directory);
+}
+
+/// The ciphertext of a random message, not recorded.
+fn ciphertext_of(file: &mut Answers, set: Set, keys: &Keys) -> Vec<u8> {
+    let message = inputs::message(set, &mut file.run.prng);
+    let (random, _) = inputs::encrypt_random(set, &mut file.run.prng);
+    let (run, lengths) = (&mut file.run, EncryptLengths::of(set));
+    compare::encrypt(run, set, &keys.public_key, &message, &random, lengths).ciphertext
+}
+
+fn additions(directory: &Path) {
+    let mut file = Answers::new("add");
+    for set in SMALL {
+        let keys = keys_of(&mut file, set);
+        let a = ciphertext_of(&mut file, set, &keys);
+        let b = ciphertext_of(&mut file, set, &keys);
+        file.add(set, &a, &b, a.len());
+        file.double(set, &a, a.len());
+        // q - 1 twice; q - 1 and 1.
+        let count = set.ciphertext_words();
+        let tops = numbers_to_octets(set.qlen(), &vec![set.q - 1; count]);
+        let ones = numbers_to_octets(set.qlen(), &vec![1; count]);
+        file.double(set, &tops, a.len());
+        file.add(set, &tops, &ones, a.len());
+    }
+    for set in five_refusals() {
+        file.double(set, &[0; 24], 24);
+    }
+    for set in [A, PADDED] {
+        let a = inputs::ciphertext(set, &mut file.run.prng);
+        let b = inputs::ciphertext(set, &mut file.run.prng);
+        for wrong in wrong_lengths(&a) {
+            file.add(set, &wrong, &b, a.len());
+            file.add(set, &b, &wrong, a.len());
+            file.double(set, &wrong, a.len());
+        }
+        for sum in [a.len() - 1, a.len() + 1, 0] {
+            file.add(set, &a, &b, sum);
+        }
+        for last in [false, true] {
+            let wrong = with_q(set, &a, last);
+            file.add(set, &wrong, &b, a.len());
+            file.add(set, &b, &wrong, a.len());
+            file.double(set, &wrong, a.len());
+            // 6 before 8.
+            file.double(set, &wrong, 0);
+        }
+    }
+    file.write(directory);
+}
+
+fn decryptions(directory: &Path) {
+    let mut file = Answers::new("decrypt");
+    for set in SMALL {
+        let keys = keys_of(&mut file, set);
+        let lengths = DecryptLengths::of(set);
+        let a = ciphertext_of(&mut file, set, &keys);
+        file.decrypt(set, &keys.secret_key, &a, lengths);
+        let (_, sum) = compare::double(&mut file.run, set, &a, a.len());
+        file.decrypt(set, &keys.secret_key, &sum, lengths);
+        // Any coefficients, any secret key: 10 unless the message is full.
+        let any = inputs::ciphertext(set, &mut file.run.prng);
+        let secret_key = inputs::secret_key(set, &mut file.run.prng);
+        file.decrypt(set, &secret_key, &any, lengths);
+        // Only the constant, each place q - 1.
+        let constant = numbers_to_octets(set.qlen(), &vec![set.q - 1; set.places()]);
+        let mut top = vec![0; a.len() - constant.len()];
+        top.extend(constant);
+        let whole = Set {
+            mlen: set.n * set.b(),
+            ..set
+        };
+        file.decrypt(whole, &secret_key, &top, DecryptLengths::of(whole));
+    }
+    // A message coefficient at the last kept place, and at each place past mlen.
+    let whole = Set {
+        mlen: PADDED.n * PADDED.b(),
+        ..PADDED
+    };
+    let keys = keys_of(&mut file, whole);
+    for place in 6..9 {
+        let mut m = vec![0; 9];
+        m[place] = 4;
+        let message = pack(whole.b(), &m, whole.message_octets());
+        let (random, _) = inputs::encrypt_random(whole, &mut file.run.prng);
+        let (run, lengths) = (&mut file.run, EncryptLengths::of(whole));
+        let made = compare::encrypt(run, whole, &keys.public_key, &message, &random, lengths);
+        let lengths = DecryptLengths::of(PADDED);
+        file.decrypt(PADDED, &keys.secret_key, &made.ciphertext, lengths);
+    }
+    for set in five_refusals() {
+        file.decrypt(set, &[9, 4], &[0; 24], DecryptLengths::of(A));
+    }
+    for set in [A, PADDED] {
+        let keys = keys_of(&mut file, set);
+        let secret_key = keys.secret_key.clone();
+        let ciphertext = ciphertext_of(&mut file, set, &keys);
+        let right = DecryptLengths::of(set);
+        for wrong in wrong_lengths(&secret_key) {
+            file.decrypt(set, &wrong, &ciphertext, right);
+        }
+        for wrong in wrong_lengths(&ciphertext) {
+            file.decrypt(set, &secret_key, &wrong, right);
+        }
+        for by in [-1, 1] {
+            let message = right.message.saturating_add_signed(by);
+            let work = right.work.saturating_add_signed(by);
+            let lengths = DecryptLengths { message, ..right };
+            file.decrypt(set, &secret_key, &ciphertext, lengths);
+            let lengths = DecryptLengths { work, ..right };
+            file.decrypt(set, &secret_key, &ciphertext, lengths);
+        }
+        let half = set.small_octets();
+        for at in [half - 1, 2 * half - 1] {
+            let padded = with_top_bit(&secret_key, at);
+            file.decrypt(set, &padded, &ciphertext, right);
+            // 7 before 8, 6 before 7.
+            let wrong = with_q(set, &ciphertext, true);
+            file.decrypt(set, &padded, &wrong, right);
+            let lengths = DecryptLengths { work: 0, ..right };
+            file.decrypt(set, &padded, &wrong, lengths);
+        }
+        for last in [false, true] {
+            let wrong = with_q(set, &ciphertext, last);
+            file.decrypt(set, &secret_key, &wrong, right);
+        }
+    }
+    file.write(directory);
+}
+
+fn octets_of(kind: Kind, set: Set, words: &[u32]) -> Vec<u8> {
+    match kind {
+        Kind::Small => pack(set.b(), words, set.small_octets()),
+        _ => numbers_to_octets(set.qlen(), words),
+    }
+}
+
+fn words_of(file: &mut Answers, kind: Kind, set: Set) -> Vec<u32> {
+    let limit = if kind == Kind::Small { set.l } else { set.q };
+    let any = |_| file.run.prng.below(u64::from(limit)) as u32;
+    let mut words: Vec<u32> = (0..kind.words(set)).map(any).collect();
+    words[0] = limit - 1;
+    words
+}
+
+fn conversions(directory: &Path) {
+    let mut file = Answers::new("conversions");
+    for set in SMALL {
+        for kind in KINDS {
+            let words = words_of(&mut file, kind, set);
+            let octets = octets_of(kind, set, &words);
+            file.octets_to_words(set, kind, &octets, words.len());
+            file.words_to_octets(set, kind, &words, octets.len());
+            // One past what is accepted, and numbers whose low octets alone are accepted.
+            for number in [words[0] + 1, 256, 1 << 16, 1 << 24] {
+                let mut wrong = words.clone();
+                wrong[words.len() - 1] = number;
+                file.words_to_octets(set, kind, &wrong, octets.len());
+            }
+            if kind != Kind::Small {
+                file.octets_to_words(set, kind, &with_q(set, &octets, true), words.len());
+            } else if !(set.n * set.b()).is_multiple_of(8) {
+                let padded = with_top_bit(&octets, octets.len() - 1);
+                file.octets_to_words(set, kind, &padded, words.len());
+            }
+        }
+    }
+    for kind in KINDS {
+        let words = words_of(&mut file, kind, A);
+        let octets = octets_of(kind, A, &words);
+        for set in five_refusals() {
+            file.octets_to_words(set, kind, &octets, words.len());
+            file.words_to_octets(set, kind, &words, octets.len());
+        }
+        for wrong in wrong_lengths(&octets) {
+            file.octets_to_words(A, kind, &wrong, words.len());
+            file.words_to_octets(A, kind, &words, wrong.len());
+        }
+        file.octets_to_words(A, kind, &octets, words.len() - 1);
+        file.octets_to_words(A, kind, &octets, words.len() + 1);
+        file.words_to_octets(A, kind, &words[1..], octets.len());
+        file.words_to_octets(A, kind, &[&words[..], &[0]].concat(), octets.len());
+        // 6 before 7 and 8.
+        file.octets_to_words(A, kind, &vec![0xFF; octets.len()], 0);
+        file.octets_to_words(A, kind, &vec![0xFF; octets.len()], words.len());
+        file.words_to_octets(A, kind, &vec![u32::MAX; words.len()], 0);
+        file.words_to_octets(A, kind, &vec![u32::MAX; words.len()], octets.len());
+    }
+    file.write(directory);
+}
+
+/// Each call once, refusals that need no long input, and the conversions. Random octets are any,
+/// cut after the last one that is used.
+fn large(directory: &Path, name: &'static str, set: Set) {
+    let mut file = Answers::new(name);
+    file.limits(set);
+    let lengths = KeygenLengths::of(set);
+    file.keygen(Set { q: 1000, ..set }, &[], lengths);
+    file.keygen(set, &[0xFF; 100], lengths);
+    let random = file.run.prng.octets(4 * set.public_key_octets());
+    let used = compare::keygen(&mut file.run, set, &random, lengths).used;
+    let keys = file.keygen(set, &random[..used as usize], lengths);
+    file.is_zero(set, &keys.secret_key, &keys.public_key, set.work_words());
+
+    let kept = (set.mlen / set.b()) as usize;
+    let any = |_| file.run.prng.below(u64::from(set.l)) as u32;
+    let m: Vec<u32> = (0..kept).map(any).collect();
+    let message = pack(set.b(), &m, set.message_octets());
+    let random = file.run.prng.octets(4 * set.ciphertext_octets());
+    let (run, lengths) = (&mut file.run, EncryptLengths::of(set));
+    let used = compare::encrypt(run, set, &keys.public_key, &message, &random, lengths).used;
+    let random = &random[..used as usize];
+    let made = file.encrypt(set, &keys.public_key, &message, random, lengths);
+    let lengths = DecryptLengths::of(set);
+    file.decrypt(set, &keys.secret_key, &made.ciphertext, lengths);
+    file.double(set, &made.ciphertext, made.ciphertext.len());
+
+    for kind in KINDS {
+        let words = words_of(&mut file, kind, set);
+        let octets = octets_of(kind, set, &words);
+        if kind != Kind::Ciphertext {
+            file.octets_to_words(set, kind, &octets, words.len());
+        }
+        if kind != Kind::PublicKey {
+            file.words_to_octets(set, kind, &words, octets.len());
+        }
+    }
+    file.write(directory);
+}
+
+fn main() {
+    let words: Vec<String> = env::args().skip(1).collect();
+    let [directory] = words.as_slice() else {
+        eprintln!("usage: known_answers DIRECTORY");
+        process::exit(2);
+    };
+    let directory = Path::new(directory);
+    limits(directory);
+    keygens(directory);
+    zero_tests(directory);
+    encryptions(directory);
+    additions(directory);
+    decryptions(directory);
+    conversions(directory);
+    for (name, set) in LARGE {
+        large(directory, name, set);
+    }
+}
