@@ -8,9 +8,7 @@ ghost use Rattle.definitions.specs.Roomsheet.{decimalLength, decimalText, limit
 ghost use Rattle.parameters.specs.Answers.{limitsAs};
 ghost use Rattle.roomsheet_lines.specs.Texts.{Appended};
 
-// The most octets that a number takes, and an answer with its newline: 0, the bound and the headroom.
-const NUMBER_ROOM: usize = 10;
-
+// The most octets that an answer takes: three numbers of 10 digits at most, two spaces and a newline.
 pub const ANSWER_ROOM: usize = 33;
 
 // How many digits a number has.
