@@ -1,0 +1,135 @@
+-- Why decryption is right: the tests that led to a return decide its answer, and the third part holds w.
+--
+--   decrypted-..     what the tests after the length test leave: the message where they pass, and what was there where one does not
+--   decrypt-..       what each return leaves
+-- Assumes nothing.
+use Prim.Native.Nat.{ℕ, zero, suc, _+_, _*_, _%_, _<_}
+use mathlib.Core.Path.{_≡_, refl, sym, ap, _∙_}
+use mathlib.Core.Bool.{true, not, _&&_, and-false}
+use mathlib.Core.List.{List, [], _∷_}
+use mathlib.Core.Logic.{⊎-elim}
+use native.Mathlib.Nat.{pos-of-ne-zero}
+use native.Mathlib.Omega.{arith}
+use borrow.Author.Tests.{eq-eqb, ne-eqb}
+use lib.Dec.{eqb}
+use lib.ListN.{length, replicate}
+use Rattle.definitions.specs.Refusals.{refuse, untouched, refused, accepted, firstRefusal}
+use Rattle.definitions.specs.Parameters.{Parameters, degree, setTests, monomialCount, secretLength, elementsLength, ciphertextLength, messageLength, workLength}
+use Rattle.definitions.specs.Ring.{modulo}
+use Rattle.definitions.specs.Calls.{DecryptExit, decryptedValue, decryptedElement, decryptedFrom, decryptAnswer, decryptLeaves, decryptExit}
+use Rattle.definitions.specs.Demand3.{AcceptedSet}
+use Rattle.definitions.proofs.Refusals.{Numbered, firstRefusal-append, firstRefusal-append-refused}
+use Rattle.definitions.proofs.Parameters.{Accepted, accepted-set}
+use Rattle.definitions.proofs.Decryption.{tailClear-cong, messageOf-cong}
+use Rattle.ring.specs.Work.{part}
+use Rattle.addition.proofs.Exits.{key-degree-most, mask-degree-most, exit-set, exit-length, exit-refused, exit-accepted}
+use Rattle.secrets.specs.Secrets.{Exact, Valued, judgeTests}
+use Rattle.decryption.specs.Decrypted.{tailTests, MessageOf, Decrypted}
+
+module _ (p : Parameters) (secret ciphertext : List ℕ) {refusal : ℕ} {work : List ℕ} (v : Valued p (degree p) secret ciphertext refusal work) where
+  pub decrypted-refused : (old : List ℕ) → (refusal ≡ 0 → ⊥) → Decrypted p secret ciphertext refusal old old
+  decrypted-refused old h =
+      record {
+        number = v .number ∙ sym (firstRefusal-append-refused (judgeTests p (degree p) secret ciphertext) _ (rw (← v .number) (pos-of-ne-zero h)));
+        written = λ e. absurd (h e);
+        kept = λ _. refl;
+      }
+
+  module _ (none : refusal ≡ 0) where
+    -- w modulo ℓ stands in the third part
+    same : (k : ℕ) → k < p .n → modulo (p .l) (part work (2 * p .n)) k ≡ decryptedFrom p secret ciphertext k
+    unfolding decryptedFrom decryptedElement decryptedValue modulo
+    same k l = ap (λ (x : ℕ). x % p .l) (v .value none k l)
+
+    numbered : Numbered (judgeTests p (degree p) secret ciphertext)
+    numbered = (omega arith, (omega arith, tt))
+
+    pub decrypted-message : (old : List ℕ) {r : ℕ} {message : List ℕ} → MessageOf p (modulo (p .l) (part work (2 * p .n))) r old message
+        → Decrypted p secret ciphertext r old message
+    decrypted-message old m =
+        record {
+          number = m .number
+              ∙ ap (λ t. firstRefusal (refuse 10 (not t) ∷ [])) (tailClear-cong p same)
+              ∙ sym (firstRefusal-append (judgeTests p (degree p) secret ciphertext) _ numbered (sym (v .number) ∙ none));
+          written = λ e. m .written e ∙ messageOf-cong p same;
+          kept = m .kept;
+        }
+
+module _ (p : Parameters) (secret ciphertext old work : List ℕ) where
+  pub decrypt-set : {k : ℕ} → k ≡ firstRefusal (setTests p) → (k ≡ 0 → ⊥)
+      → decryptLeaves (untouched k) old work ≡ decryptExit p secret ciphertext old work
+  unfolding decryptExit decryptAnswer
+  decrypt-set e pos = exit-set (λ x. decryptLeaves x old work) p _ _ _ e pos
+
+  module _ (set : AcceptedSet p) {len : ℕ} where
+    pub decrypt-secret-length : len ≡ secretLength p → (length secret ≡ len → ⊥)
+        → decryptLeaves (untouched 6) old work ≡ decryptExit p secret ciphertext old work
+    unfolding decryptExit decryptAnswer
+    decrypt-secret-length e h =
+        exit-length (λ x. decryptLeaves x old work) p _ _ _ set (rw (ne-eqb (length secret) (secretLength p) (rw e at h)))
+
+    pub decrypt-ciphertext-length : len ≡ ciphertextLength p → (length ciphertext ≡ len → ⊥)
+        → decryptLeaves (untouched 6) old work ≡ decryptExit p secret ciphertext old work
+    unfolding decryptExit decryptAnswer
+    decrypt-ciphertext-length e h =
+        exit-length (λ x. decryptLeaves x old work) p _ _ _ set
+        (rw (ne-eqb (length ciphertext) (ciphertextLength p) (rw e at h), and-false (eqb (length secret) (secretLength p))))
+
+    pub decrypt-message-length : len ≡ messageLength p → (length old ≡ len → ⊥)
+        → decryptLeaves (untouched 6) old work ≡ decryptExit p secret ciphertext old work
+    unfolding decryptExit decryptAnswer
+    decrypt-message-length e h =
+        exit-length (λ x. decryptLeaves x old work) p _ _ _ set
+        (rw (
+          ne-eqb (length old) (messageLength p) (rw e at h),
+          and-false (eqb (length ciphertext) (ciphertextLength p)),
+          and-false (eqb (length secret) (secretLength p)),
+        ))
+
+    pub decrypt-work-length : len ≡ workLength p → (length work ≡ len → ⊥)
+        → decryptLeaves (untouched 6) old work ≡ decryptExit p secret ciphertext old work
+    unfolding decryptExit decryptAnswer
+    decrypt-work-length e h =
+        exit-length (λ x. decryptLeaves x old work) p _ _ _ set
+        (rw (
+          ne-eqb (length work) (workLength p) (rw e at h),
+          and-false (eqb (length old) (messageLength p)),
+          and-false (eqb (length ciphertext) (ciphertextLength p)),
+          and-false (eqb (length secret) (secretLength p)),
+        ))
+
+  pub decrypt-exact : AcceptedSet p → length secret ≡ secretLength p → length ciphertext ≡ ciphertextLength p → length work ≡ workLength p
+      → Exact p (degree p) secret ciphertext work
+  unfolding ciphertextLength
+  decrypt-exact set s k w =
+      let a : Accepted p = accepted-set p set in
+      record {
+        set = set;
+        degree-least = ⊎-elim (λ e. omega arith) (λ e. omega arith) (a .key-degree);
+        degree-most = omega (arith, key-degree-most p a, mask-degree-most p a);
+        secret-length = s;
+        octets-length = k;
+        work-length = w;
+      }
+
+  module _ (exact : Exact p (degree p) secret ciphertext work) (message-length : length old ≡ messageLength p) where
+    lengths : (eqb (length secret) (secretLength p)
+        && (eqb (length ciphertext) (ciphertextLength p)
+        && (eqb (length old) (messageLength p) && eqb (length work) (workLength p)))) ≡ true
+    unfolding ciphertextLength
+    lengths =
+        rw (
+          eq-eqb (length secret) (secretLength p) (exact .secret-length),
+          eq-eqb (length ciphertext) (elementsLength p (monomialCount (degree p))) (exact .octets-length),
+          eq-eqb (length old) (messageLength p) message-length,
+          eq-eqb (length work) (workLength p) (exact .work-length),
+        )
+
+    -- past the length test: the words are cleared, whatever the tests said
+    pub decrypt-decrypted : (refusal : ℕ) {message words : List ℕ} → Decrypted p secret ciphertext refusal old message → words ≡ replicate (length work) 0
+        → _≡_ {A = DecryptExit} (record { refusal = refusal; message = message; work = words }) (decryptExit p secret ciphertext old work)
+    unfolding decryptExit decryptAnswer
+    decrypt-decrypted zero t e =
+        rw (t .written refl, e) (exit-accepted (λ x. decryptLeaves x old work) p _ _ _ (exact .set) lengths (sym (t .number)))
+    decrypt-decrypted (suc k) t e =
+        rw (t .kept (λ z. omega arith), e) (exit-refused (λ x. decryptLeaves x old work) p _ _ _ (exact .set) lengths k (sym (t .number)))

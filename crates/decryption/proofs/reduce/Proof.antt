@@ -1,0 +1,80 @@
+-- `reduce` writes one word a turn: after k turns the first k words are modulo l.
+-- Assumes nothing.
+use Prim.Native.Nat.{ℕ, _+_, _-_, _%_, _≤_}
+use mathlib.Core.Path.{refl, ap}
+use native.Mathlib.Omega.{arith}
+use Rattle.ring.specs.Work.{part}
+use Rattle.ring.proofs.Work.{Writing, writing-none, writing-more, writing-ahead, writing-all}
+use Rattle.decryption.proofs.reduce.Statement.{statement}
+use Rattle.decryption.proofs.reduce.Tie as tie
+
+abbrev Inv-loop : tie.InvT-loop
+Inv-loop work₀ at n l k₀ work k = (k ≤ n) × Writing at k (λ j. part work₀ at j % l) work₀ work
+
+abbrev μ-loop : tie.MeasureT-loop
+μ-loop work₀ at n l k₀ work k = n - k
+
+loop-holds : tie.Need-loop-holds Inv-loop μ-loop
+loop-holds c = (omega arith, writing-none _ _ _)
+
+add-work : tie.Need-add-work Inv-loop μ-loop
+add-work c = omega arith
+
+mul-work : tie.Need-mul-work Inv-loop μ-loop
+mul-work c = omega arith
+
+slice-read-work : tie.Need-slice-read-work Inv-loop μ-loop
+slice-read-work c = omega arith
+
+rem-work : tie.Need-rem-work Inv-loop μ-loop
+rem-work c = omega arith
+
+add-work-2 : tie.Need-add-work-2 Inv-loop μ-loop
+add-work-2 c = omega arith
+
+mul-work-2 : tie.Need-mul-work-2 Inv-loop μ-loop
+mul-work-2 c = omega arith
+
+slice-write-work : tie.Need-slice-write-work Inv-loop μ-loop
+slice-write-work c = omega arith
+
+add-k : tie.Need-add-k Inv-loop μ-loop
+add-k c = omega arith
+
+loop-less : tie.Need-loop-less Inv-loop μ-loop
+loop-less c = omega arith
+
+loop-again : tie.Need-loop-again Inv-loop μ-loop
+loop-again c =
+    let a = c .before .before .before .args in
+    let l = c .before .before .loop in (
+      omega arith,
+      writing-more (l .inv .1) refl (omega arith)
+          (ap (λ (x : ℕ). x % a .l) (writing-ahead (a .at + l .k) (l .inv .1) (omega arith) (omega arith))),
+    )
+
+same-length : tie.Need-same-length Inv-loop μ-loop
+same-length c = c .before .loop .inv .1 .as-long
+
+returns : tie.Need-returns Inv-loop μ-loop
+returns c = writing-all (c .before .loop .inv .1) (omega arith)
+
+pub reduce-spec : {M : Type 1} → statement M
+reduce-spec =
+    tie.close
+    (tie.spec
+    Inv-loop
+    μ-loop
+    loop-holds
+    add-work
+    mul-work
+    slice-read-work
+    rem-work
+    add-work-2
+    mul-work-2
+    slice-write-work
+    add-k
+    loop-less
+    loop-again
+    same-length
+    returns)

@@ -1,0 +1,98 @@
+// Decryption (01, "Draws from lent random octets": opening): w is the ciphertext's value at the secret, and w modulo l the message.
+// It refuses an unfit set (1 to 5), a length that is not the exact one (6), a secret with an unused bit set (7), a coefficient of the
+// ciphertext that is not below q (8) and a number past the message that is not 0 (10); a refusal leaves the message as it was. The work
+// words are zero after every ending past the length test. The contract cites the definitions' decryptExit.
+ghost use mathlib.Core.Path.{_≡_};
+ghost use Prim.Native.Nat.{_+_, _*_, _%_, _≤_, _<_};
+ghost use lib.ListN.{length};
+ghost use Rattle.definitions.specs.Sequences.{tabulate};
+ghost use Rattle.definitions.specs.Parameters.{messageLength, workLength};
+ghost use Rattle.definitions.specs.Ring.{modulo};
+ghost use Rattle.definitions.specs.Calls.{DecryptExit, decryptExit};
+ghost use Rattle.definitions.specs.Demand3.{AcceptedSet};
+ghost use Rattle.parameters.specs.Answers.{setFrom};
+ghost use Rattle.ring.specs.Work.{part, written};
+ghost use Rattle.secrets.specs.Secrets.{Exact};
+ghost use Rattle.decryption.specs.Decrypted.{MessageOf, Decrypted};
+use parameters::Parameters;
+use parameters::lengths;
+use parameters::refusals;
+
+// Each word of a part modulo l.
+fn reduce(work: &mut [u32], at: usize, n: usize, l: u32)
+    requires { ⌜ (at + n ≤ length (now work)) × (0 < l) ⌝ }
+    ensures { λ _. ⌜ now (work .exit) ≡ written at (tabulate n (λ k. part (now (work .entry)) at k % l)) (now (work .entry)) ⌝ }
+{
+    let mut k = 0;
+    while k < n {
+        work[at + k] = work[at + k] % l;
+        k += 1;
+    }
+}
+
+// The message of the element in the third part, modulo l, unless the tail is not zero.
+fn write_message(p: Parameters, message: &mut [u8], work: &mut [u32]) -> u32
+    requires { ⌜ AcceptedSet (setFrom p) × (length (now message) ≡ messageLength (setFrom p)) × (length (now work) ≡ workLength (setFrom p)) ⌝ }
+    ensures { λ r. ⌜ MessageOf (setFrom p) (modulo (p .l) (part (now (work .entry)) (2 * p .n))) r (now (message .entry)) (now (message .exit)) ⌝ }
+{
+    let n = p.n as usize;
+    let at = 2 * n;
+    let end = at + n;
+    reduce(work, at, n, p.l);
+    let b = lengths::bits(p.l);
+    let tail = at + ((p.mlen / b) as usize);
+    if secrets::vanishes(work, tail, end) == 0 {
+        return refusals::TAIL;
+    }
+    packing::pack(&work[at..end], b, message);
+    0
+}
+
+// Decryption, after the length test; the work words are left as they come.
+fn decrypted(
+    p: Parameters,
+    secret: &[u8],
+    ciphertext: &[u8],
+    message: &mut [u8],
+    work: &mut [u32],
+) -> u32
+    requires { ⌜ Exact (setFrom p) (p .dx + p .dr) (now secret) (now ciphertext) (now work) × (length (now message) ≡ messageLength (setFrom p)) ⌝ }
+    ensures { λ r. ⌜ Decrypted (setFrom p) (now (secret .entry)) (now (ciphertext .entry)) r (now (message .entry)) (now (message .exit)) ⌝ }
+{
+    let d = (p.dx + p.dr) as usize;
+    let refused = secrets::value(p, d, secret, ciphertext, work);
+    if refused != 0 {
+        return refused;
+    }
+    write_message(p, message, work)
+}
+
+pub fn decrypt(
+    p: Parameters,
+    secret: &[u8],
+    ciphertext: &[u8],
+    message: &mut [u8],
+    work: &mut [u32],
+) -> u32
+    ensures { λ r. ⌜ _≡_ {A = DecryptExit} (record { refusal = r; message = now (message .exit); work = now (work .exit) }) (decryptExit (setFrom p) (now (secret .entry)) (now (ciphertext .entry)) (now (message .entry)) (now (work .entry))) ⌝ }
+{
+    let refused = parameters::refusal(p);
+    if refused != 0 {
+        return refused;
+    }
+    if secret.len() != lengths::secret_length(p) {
+        return refusals::LENGTH;
+    }
+    if ciphertext.len() != lengths::ciphertext_length(p) {
+        return refusals::LENGTH;
+    }
+    if message.len() != lengths::message_length(p) {
+        return refusals::LENGTH;
+    }
+    if work.len() != lengths::work_length(p) {
+        return refusals::LENGTH;
+    }
+    let number = decrypted(p, secret, ciphertext, message, work);
+    ring::clear(work);
+    number
+}
