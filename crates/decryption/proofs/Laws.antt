@@ -22,7 +22,8 @@ use Rattle.definitions.proofs.Refusals.{Numbered, firstRefusal-append, firstRef
 use Rattle.definitions.proofs.Parameters.{Accepted, accepted-set}
 use Rattle.definitions.proofs.Decryption.{tailClear-cong, messageOf-cong}
 use Rattle.ring.specs.Work.{part}
-use Rattle.addition.proofs.Exits.{key-degree-most, mask-degree-most, exit-set, exit-length, exit-refused, exit-accepted}
+use Rattle.definitions.proofs.Exits.{exit-set, exit-length, exit-refused, exit-accepted}
+use Rattle.definitions.proofs.Parameters.{key-degree-most, mask-degree-most}
 use Rattle.secrets.specs.Secrets.{Exact, Valued, judgeTests}
 use Rattle.decryption.specs.Decrypted.{tailTests, MessageOf, Decrypted}
 

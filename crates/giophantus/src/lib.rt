@@ -6,7 +6,7 @@ pub mod conversion;
 ghost use mathlib.Core.Path.{_≡_};
 ghost use Rattle.definitions.specs.Refusals.{firstRefusal};
 ghost use Rattle.definitions.specs.Parameters.{setTests, LimitsExit, limitsExit, LengthsExit, lengthsExit};
-ghost use Rattle.definitions.specs.Calls.{KeygenExit, keygenExit, IsZeroExit, isZeroExit, AddExit, addExit};
+ghost use Rattle.definitions.specs.Calls.{KeygenExit, keygenExit, IsZeroExit, isZeroExit, EncryptExit, encryptExit, AddExit, addExit, DecryptExit, decryptExit};
 ghost use Rattle.giophantus.specs.Interface.{set, limitsOf, lengthsOf};
 use parameters::LimitsAnswer;
 use parameters::Parameters;
@@ -150,6 +150,35 @@ pub extern "C" fn giophantus_is_zero(
     zero_test::is_zero(p, secret_key, public_key, work, zero)
 }
 
+// A ciphertext of a message under a public key, and the octets used.
+#[no_mangle]
+pub extern "C" fn giophantus_encrypt(
+    l: u32,
+    q: u32,
+    n: u32,
+    dx: u32,
+    dr: u32,
+    mlen: u32,
+    public_key: &[u8],
+    message: &[u8],
+    random: &[u8],
+    ciphertext: &mut [u8],
+    work: &mut [u32],
+    used: &mut u64,
+) -> u32
+    ensures { λ r. ⌜ _≡_ {A = EncryptExit} (record { refusal = r; ciphertext = now (ciphertext .exit); used = now (used .exit); work = now (work .exit) }) (encryptExit (set l q n dx dr mlen) (now («public_key» .entry)) (now (message .entry)) (now (random .entry)) (now (ciphertext .entry)) (now (used .entry)) (now (work .entry))) ⌝ }
+{
+    let p = Parameters {
+        l,
+        q,
+        n,
+        dx,
+        dr,
+        mlen,
+    };
+    encryption::encrypt(p, public_key, message, random, ciphertext, work, used)
+}
+
 // The sum of two ciphertexts, which may be one buffer.
 #[no_mangle]
 pub extern "C" fn giophantus_add(
@@ -174,4 +203,31 @@ pub extern "C" fn giophantus_add(
         mlen,
     };
     addition::add(p, a, b, sum)
+}
+
+// The message of a ciphertext, or of a sum of ciphertexts.
+#[no_mangle]
+pub extern "C" fn giophantus_decrypt(
+    l: u32,
+    q: u32,
+    n: u32,
+    dx: u32,
+    dr: u32,
+    mlen: u32,
+    secret_key: &[u8],
+    ciphertext: &[u8],
+    message: &mut [u8],
+    work: &mut [u32],
+) -> u32
+    ensures { λ r. ⌜ _≡_ {A = DecryptExit} (record { refusal = r; message = now (message .exit); work = now (work .exit) }) (decryptExit (set l q n dx dr mlen) (now («secret_key» .entry)) (now (ciphertext .entry)) (now (message .entry)) (now (work .entry))) ⌝ }
+{
+    let p = Parameters {
+        l,
+        q,
+        n,
+        dx,
+        dr,
+        mlen,
+    };
+    decryption::decrypt(p, secret_key, ciphertext, message, work)
 }

@@ -1,0 +1,5 @@
+-- Laws that the proofs cite.
+pub mod Elements
+pub mod Ciphertext
+pub mod Returns
+pub mod Mask

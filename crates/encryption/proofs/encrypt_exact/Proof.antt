@@ -1,0 +1,99 @@
+-- `encrypt_exact` judges the message before the key, and clears the work words where it refuses.
+-- Assumes nothing.
+use Prim.Native.Nat.{ℕ, _≤_}
+use native.Mathlib.Omega.{arith}
+use mathlib.Core.Path.{_≡_, sym, _∙_, ap}
+use mathlib.Core.Bool.{true}
+use borrow.Author.Needs.{needs}
+use lib.ListN.{length, replicate}
+use Rattle.definitions.specs.Parameters.{publicLength}
+use Rattle.definitions.specs.Octets.{paddingClear}
+use Rattle.definitions.proofs.Parameters.{accepted-set, modulus-positive, modulus-word, qlen-least, qlen-most}
+use Rattle.parameters.specs.Answers.{setFrom}
+use Rattle.octets.proofs.Judged.{judged-fits, judged-refused}
+use Rattle.encryption.specs.Elements.{Judged}
+use Rattle.encryption.proofs.Returns.{encrypt-padding, encrypt-coefficient, padding-clear, padding-refused}
+use Rattle.encryption.proofs.encrypt_exact.Statement.{statement}
+use Rattle.encryption.proofs.encrypt_exact.Tie as tie
+
+cast-padding : tie.Need-cast-padding
+cast-padding c = search needs
+
+padding-requires : tie.Need-padding-requires
+padding-requires c κs = search needs
+
+cleared-requires : tie.Need-cleared-requires
+cleared-requires c κs = search needs
+
+same-length : tie.Need-same-length
+same-length c = search needs
+
+returns : tie.Need-returns
+returns c =
+    let s = c .before .before .before .before .before .before .before .before .before .before .before .before in
+    encrypt-padding (setFrom (s .args .p)) (s .args .public .now) (s .args .message .now) (s .args .random .now) (s .args .ciphertext .now) (s .args .used .now) (s .args .work .now) (s .pre) (c .before .before .cleared .ensures)
+    (padding-refused _ _ (λ e. c .before .before .before .before .if1 .taken (c .before .before .before .before .before .padding .ensures ∙ e)))
+
+padded : (c : tie.Else1) → paddingClear (c .before .before .before .before .before .before .before .before .args .p .mlen) (c .before .before .before .before .before .before .before .before .args .message .now) ≡ true
+padded c = padding-clear _ _ (sym (c .before .padding .ensures) ∙ c .if1 .left)
+
+octets-of-coefficient-requires : tie.Need-octets-of-coefficient-requires
+octets-of-coefficient-requires c κs = search needs
+
+judge-requires : tie.Need-judge-requires
+judge-requires c κs =
+    let set = accepted-set _ (c .before .before .before .before .before .before .before .before .before .pre .set) in
+    rw (c .octets-of-coefficient .ensures) (qlen-least _ (modulus-positive _ set) (modulus-word _ set), qlen-most _)
+
+cleared-requires-2 : tie.Need-cleared-requires-2
+cleared-requires-2 c κs = search needs
+
+same-length-2 : tie.Need-same-length-2
+same-length-2 c = search needs
+
+returns-2 : tie.Need-returns-2
+unfolding publicLength
+returns-2 c =
+    let s = c .before .before .before .before .before .before .before .before .before .before .before .before .before .before .before in
+    encrypt-coefficient (setFrom (s .args .p)) (s .args .public .now) (s .args .message .now) (s .args .random .now) (s .args .ciphertext .now) (s .args .used .now) (s .args .work .now) (s .pre) (c .before .before .cleared2 .ensures)
+    (padded (c .before .before .before .before .before .before .before))
+    (judged-refused _ (accepted-set _ (s .pre .set)) _ (s .args .public .now) (s .pre .public-exact) (c .before .before .before .before .before .before .octets-of-coefficient .ensures) (c .before .before .before .before .before .judge .ensures) (c .before .before .before .before .if2 .taken))
+
+encrypt-judged-requires : tie.Need-encrypt-judged-requires
+unfolding publicLength
+encrypt-judged-requires c κs =
+    let s = c .before .before .before .before .before .before .before .before .before .before .before .before .before .before in (
+      s .pre,
+      record {
+        padded = padded (c .before .before .before .before .before .before);
+        fits = judged-fits _ (accepted-set _ (s .pre .set)) _ (s .args .public .now) (s .pre .public-exact) (c .before .before .before .before .before .octets-of-coefficient .ensures) (c .before .before .before .before .judge .ensures) (c .before .before .before .if2 .left);
+      },
+    )
+
+same-length-3 : tie.Need-same-length-3
+same-length-3 c = search needs
+
+same-length-4 : tie.Need-same-length-4
+same-length-4 c = search needs
+
+returns-3 : tie.Need-returns-3
+returns-3 c = c .before .before .before .before .encrypt-judged .ensures
+
+pub encrypt-exact-spec : {M : Type 1} → statement M
+encrypt-exact-spec =
+    tie.close
+    (tie.spec
+    cast-padding
+    padding-requires
+    cleared-requires
+    same-length
+    returns
+    octets-of-coefficient-requires
+    judge-requires
+    cleared-requires-2
+    same-length-2
+    returns-2
+    encrypt-judged-requires
+    same-length-3
+    same-length-4
+    returns-3)

@@ -1,0 +1,47 @@
+-- What encryption's functions hand to one another.
+--
+--   encryptedSum     an element of m + X × r + ℓ × e, over the whole numbers
+--   Exact            the set is accepted and every length is the exact one
+--   Judged           the message's unused bits are zero and the key's coefficients are below q
+--   MaskDrawn        the mask stands in the first parts of the work words; start is where the noise begins in the random octets
+--   Ready            what one element of the ciphertext is taken from: the key, the mask and the octets of the noise
+-- Assumes nothing.
+use Prim.Native.Nat.{ℕ, _+_, _*_, _≤_, _<_}
+use mathlib.Core.Path.{_≡_}
+use mathlib.Core.Bool.{true}
+use mathlib.Core.List.{List}
+use lib.ListN.{length, take}
+use Rattle.definitions.specs.Parameters.{Parameters, degree, monomialCount, smallLength, publicLength, ciphertextLength, messageLength, workLength}
+use Rattle.definitions.specs.Ring.{Element, InRing}
+use Rattle.definitions.specs.Monomials.{Polynomial, constantTerm, productOf}
+use Rattle.definitions.specs.Octets.{paddingClear}
+use Rattle.definitions.specs.Calls.{elementsFit, maskDraws, maskLength}
+use Rattle.definitions.specs.Demand3.{AcceptedSet}
+use Rattle.mask_products.specs.Products.{maskIn}
+
+abbrev pub encryptedSum : Parameters → Polynomial → Element → Polynomial → Polynomial → Polynomial
+encryptedSum p key m r e i k = productOf (p .n) (p .dx) (p .dr) key r i k + p .l * e i k + constantTerm (degree p) m i k
+
+pub record Exact (p : Parameters) (public message ciphertext work : List ℕ) : Type 0 where
+  pub set : AcceptedSet p
+  pub public-exact : length public ≡ publicLength p
+  pub message-exact : length message ≡ messageLength p
+  pub ciphertext-exact : length ciphertext ≡ ciphertextLength p
+  pub work-exact : length work ≡ workLength p
+
+pub record Judged (p : Parameters) (public message : List ℕ) : Type 0 where
+  pub padded : paddingClear (p .mlen) message ≡ true
+  pub fits : elementsFit p (monomialCount (p .dx)) public ≡ true
+
+pub record MaskDrawn (p : Parameters) (random : List ℕ) (start : ℕ) (work : List ℕ) : Type 0 where
+  pub enough : maskDraws p random .enough ≡ true
+  pub values : take (monomialCount (p .dr) * p .n) work ≡ maskDraws p random .values
+  pub taken : start ≡ maskLength p random
+
+pub record Ready (p : Parameters) (public random : List ℕ) (start : ℕ) (work : List ℕ) : Type 0 where
+  pub set : AcceptedSet p
+  pub public-exact : length public ≡ publicLength p
+  pub fits : elementsFit p (monomialCount (p .dx)) public ≡ true
+  pub work-exact : length work ≡ workLength p
+  pub mask : (j : ℕ) → j < monomialCount (p .dr) → InRing (p .q) (p .n) (maskIn (p .n) work j)
+  pub noise : start + monomialCount (degree p) * smallLength p ≤ length random
