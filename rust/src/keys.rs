@@ -92,6 +92,11 @@ impl<S> SecretKey<S> {
         halves.flat_map(|half| self.set.small_from_octets(half).expect(WELL_FORMED)).collect()
     }
 
+    /// The same secret key under the set for blank fields ([`Parameters::blank`]).
+    pub fn blank(&self) -> SecretKey {
+        SecretKey::judged(self.set.blank(), self.octets.clone())
+    }
+
     /// The zero test: whether the public key's value at this secret key is 0. What is promised of decryption holds for
     /// such a secret key.
     pub fn is_zero_of(&self, public_key: &PublicKey<S>) -> Result<bool, Error> {
@@ -168,6 +173,22 @@ impl<S> PublicKey<S> {
         let mut words = vec![0; self.set.public_key_words()];
         ffi::public_key_from_octets(self.set.numbers(), &self.octets, &mut words).expect(WELL_FORMED);
         words
+    }
+
+    /// The same public key under the set for blank fields ([`Parameters::blank`]).
+    ///
+    /// ```
+    /// use giophantus::{Message, Parameters};
+    ///
+    /// let set = Parameters::new(4, 65521, 2, 1, 1, 4)?;
+    /// let keys = set.keygen(&[9; 100])?;
+    /// let message = Message::from_counts(&set.blank(), &[])?;
+    /// let sent = keys.public_key.blank().encrypt(&message, &[5; 100])?.ciphertext;
+    /// assert!(keys.secret_key.blank().decrypt(&sent)?.is_blank());
+    /// # Ok::<(), giophantus::Error>(())
+    /// ```
+    pub fn blank(&self) -> PublicKey {
+        PublicKey::judged(self.set.blank(), self.octets.clone())
     }
 
     /// Encrypts a message with random octets: refusal 9 where they end too early. Octets that were used once must not be
