@@ -330,7 +330,7 @@ fn arguments_that_are_no_text() {
     let place = Place::worked();
     let odd = OsStr::from_bytes(b"\xFF\xFE=\x80").to_owned();
     let words = |words: &[&str]| words.iter().map(OsString::from).collect::<Vec<_>>();
-    place.bad(&[odd.clone()], 64, "is no command");
+    place.bad(std::slice::from_ref(&odd), 64, "is no command");
     place.bad(&[words(&["limits", "--set"]), vec![odd.clone()]].concat(), 11, "refusal 11");
     place.bad(&[words(&["add", "--set", SET_A, "sent"]), vec![odd.clone()]].concat(), 74, "No such file");
     let option = OsStr::from_bytes(b"--\xFF=1").to_owned();
