@@ -105,14 +105,14 @@ impl Error {
     /// What the error says, in one sentence.
     pub fn sentence(self) -> &'static str {
         match self {
-            Error::Range => "ℓ isn't 2, 4, 8 or 16",
+            Error::Range => "l isn't 2, 4, 8 or 16",
             Error::Ring => "n is outside 2 to 4096",
             Error::Degree => "dX or dr isn't 1 or 2",
             Error::Modulus => "q is above 2147483647, or not above the bound of the set",
-            Error::MessageSize => "mlen is above n × b or no multiple of b",
+            Error::MessageSize => "mlen is above n * b or no multiple of b",
             Error::Length => "a buffer isn't of its exact length",
             Error::Padding => "a packed element or message has a non-zero unused bit",
-            Error::Coefficient => "a coefficient is q or more, or ℓ or more where a small one is expected",
+            Error::Coefficient => "a coefficient is q or more, or l or more where a small one is expected",
             Error::RandomExhausted => "the random octets end before the last draw is complete",
             Error::Tail => "a decrypted coefficient past mlen bits isn't zero",
             Error::Line => "a line of six numbers is malformed",
@@ -125,19 +125,19 @@ impl Error {
     /// What to do about it, in one sentence.
     pub fn advice(self) -> &'static str {
         match self {
-            Error::Range => "choose ℓ as 2, 4, 8 or 16",
+            Error::Range => "choose l as 2, 4, 8 or 16",
             Error::Ring => "choose n from 2 to 4096",
             Error::Degree => "choose dX and dr as 1 or 2",
-            Error::Modulus => "choose a larger q (at most 2147483647), or a smaller ℓ, n, dX or dr",
-            Error::MessageSize => "choose mlen as b times the number of counts, at most n × b",
+            Error::Modulus => "choose a larger q (at most 2147483647), or a smaller l, n, dX or dr",
+            Error::MessageSize => "choose mlen as b times the number of counts, at most n * b",
             Error::Length => "check that the data is whole and was made under this set",
             Error::Padding => "check that the data is undamaged and was made under this set",
             Error::Coefficient => {
-                "check that the data is undamaged and was made under this set, and that each count is below ℓ"
+                "check that the data is undamaged and was made under this set, and that each count is below l"
             }
             Error::RandomExhausted => "give the same random octets again with more behind them",
             Error::Tail => "check the secret key, mlen, and that no more ciphertexts were added than the headroom",
-            Error::Line => "write ℓ q n dX dr mlen as six decimal numbers with one space between",
+            Error::Line => "write l q n dX dr mlen as six decimal numbers with one space between",
             Error::Unknown(_) => "use the package and the library of one release",
             Error::DifferentSets => "make both under one set; a blank is never added to counts",
             Error::RandomSource(_) => "check the source, or name another",

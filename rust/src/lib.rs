@@ -76,3 +76,8 @@ pub use error::Error;
 pub use keys::{Keys, PublicKey, SecretKey};
 pub use message::Message;
 pub use parameters::{AnySet, FixedSet, Parameters};
+
+/// The README's example runs too.
+#[cfg(doctest)]
+#[doc = include_str!("../README.md")]
+enum Readme {}
