@@ -1,8 +1,28 @@
--- Laws of the definitions.
+-- Laws of the definitions, and from Represents on the proof of demand 3.
 pub mod WorkedCases
 pub mod Sums
+pub mod Filling
 pub mod Congruence
 pub mod Ring
 pub mod Monomials
 pub mod Values
 pub mod Noise
+pub mod Tests
+pub mod Refusals
+pub mod Parameters
+pub mod Octets
+pub mod Packing
+pub mod Draws
+pub mod Roomsheet
+pub mod Elements
+pub mod Small
+pub mod Calls
+pub mod Represents
+pub mod Decryption
+pub mod Zeros
+pub mod MadeKeys
+pub mod Kept
+pub mod Ledger
+pub mod Alike
+pub mod Corollaries
+pub mod Witness

@@ -50,22 +50,22 @@ length-monomials zero = unfold ofDegree tabulate monomialCount in refl
 length-monomials (suc d) = length-append (ofDegree (suc d)) (monomials d) ∙ ap₂ _+_ (length-ofDegree d) (length-monomials d) ∙ sym (monomialCount-suc d)
 
 -- where a place of a degree's list stands: in its first total degree, or in the list of the degree before
-first : (d i : ℕ) → i < d + 2 → monomialAt (suc d) i ≡ record { x = suc d - i; y = i }
+pub monomialAt-first : (d i : ℕ) → i < d + 2 → monomialAt (suc d) i ≡ record { x = suc d - i; y = i }
 unfolding monomialAt monomials
-first d i l =
+monomialAt-first d i l =
     List·getD-append (ofDegree (suc d)) (monomials d) _ i (rw (length-ofDegree d) l)
     ∙ unfold ofDegree in getD-tabulate (suc (suc d)) _ _ (rw add-two at l)
 
-rest : (d i : ℕ) → monomialAt (suc d) (d + 2 + i) ≡ monomialAt d i
+pub monomialAt-rest : (d i : ℕ) → monomialAt (suc d) (d + 2 + i) ≡ monomialAt d i
 unfolding monomialAt monomials
-rest d i = rw (← length-ofDegree d) (getD-append-add (ofDegree (suc d)) (monomials d) i _)
+monomialAt-rest d i = rw (← length-ofDegree d) (getD-append-add (ofDegree (suc d)) (monomials d) i _)
 
 monomials-split : (d i : ℕ) → ((i < d + 2) × (monomialAt (suc d) i ≡ record { x = suc d - i; y = i })) ⊎ ((j : ℕ) × (i ≡ d + 2 + j) × (monomialAt (suc d) i ≡ monomialAt d j))
 monomials-split d i =
     elim (decLt i (d + 2)) [
-      | yes l ↦ inl (l, first d i l)
+      | yes l ↦ inl (l, monomialAt-first d i l)
       | no l ↦ let e : i ≡ d + 2 + (i - (d + 2)) = omega arith in
-          inr (i - (d + 2), e, ap (monomialAt (suc d)) e ∙ rest d (i - (d + 2)))
+          inr (i - (d + 2), e, ap (monomialAt (suc d)) e ∙ monomialAt-rest d (i - (d + 2)))
     ]
 
 at-zero : (i : ℕ) → monomialAt 0 i ≡ record { x = 0; y = 0 }
@@ -82,7 +82,7 @@ pub monomials-order : (d : ℕ) {i j : ℕ} → i < j → j < monomialCount d �
 monomials-order zero l s = unfold monomialCount in absurd (omega arith)
 monomials-order (suc d) {i} {j} l s =
     ⊎-elim
-    (λ v. rw (first d i (omega arith), v .1) (inr (omega arith, omega arith)))
+    (λ v. rw (monomialAt-first d i (omega arith), v .1) (inr (omega arith, omega arith)))
     (λ v.
     ⊎-elim
     (λ u. rw (u .1, v .2) (inl (omega (arith, monomials-degree d (v .0)))))
@@ -94,7 +94,7 @@ pub monomials-last : (d : ℕ) → monomialAt d (monomialCount d - 1) ≡ record
 monomials-last zero = at-zero _
 monomials-last (suc d) =
     let e : monomialCount (suc d) - 1 ≡ d + 2 + (monomialCount d - 1) = omega (arith, monomialCount-suc d, monomialCount-pos d) in
-    rw e (rest d (monomialCount d - 1) ∙ monomials-last d)
+    rw e (monomialAt-rest d (monomialCount d - 1) ∙ monomials-last d)
 
 pub monomials-tail : (d e : ℕ) → drop (monomialCount (d + e) - monomialCount d) (monomials (d + e)) ≡ monomials d
 unfolding monomials
@@ -116,8 +116,8 @@ monomials-place zero m l = (0, monomialCount-pos 0, at-zero 0 ∙ monomial-path 
 monomials-place (suc d) m l =
     elim (decLe (totalDegree m) d) [
       | yes s ↦ let (i, h, e) = monomials-place d m s in
-          (d + 2 + i, omega (arith, monomialCount-suc d), rest d i ∙ e)
-      | no s ↦ (m .y, omega (arith, monomialCount-suc d), first d (m .y) (omega arith) ∙ monomial-path _ m (omega arith) refl)
+          (d + 2 + i, omega (arith, monomialCount-suc d), monomialAt-rest d i ∙ e)
+      | no s ↦ (m .y, omega (arith, monomialCount-suc d), monomialAt-first d (m .y) (omega arith) ∙ monomial-path _ m (omega arith) refl)
     ]
 
 before-itself : (m : Monomial) → Before m m → ⊥
@@ -167,7 +167,7 @@ monomials-by-degree (suc d) g =
     at m = g (totalDegree m)
 
     new : sum (d + 2) (λ i. at (monomialAt (suc d) i)) ≡ (d + 2) * g (suc d)
-    new = sum-cong (d + 2) (λ i l. ap g (rw (first d i l) (omega arith))) ∙ sum-const (d + 2) (g (suc d))
+    new = sum-cong (d + 2) (λ i l. ap g (rw (monomialAt-first d i l) (omega arith))) ∙ sum-const (d + 2) (g (suc d))
 
     old : sum (monomialCount d) (λ i. at (monomialAt (suc d) (d + 2 + i))) ≡ sum (monomialCount d) (λ i. at (monomialAt d i))
-    old = sum-cong (monomialCount d) (λ i l. ap at (rest d i))
+    old = sum-cong (monomialCount d) (λ i l. ap at (monomialAt-rest d i))

@@ -92,6 +92,11 @@ unfolding every
 every-true zero h = refl
 every-true (suc n) h = rw (every-true n (λ k l. h k (le-step l)), h n (lt-suc-self n))
 
+pub every-cong : (n : ℕ) {f g : ℕ → Bool} → ((k : ℕ) → k < n → f k ≡ g k) → every n f ≡ every n g
+unfolding every
+every-cong zero h = refl
+every-cong (suc n) h = ap₂ _&&_ (every-cong n (λ k l. h k (le-step l))) (h n (lt-suc-self n))
+
 and-left : (a b : Bool) → (a && b) ≡ true → a ≡ true
 and-left true b e = refl
 and-left false b e = e

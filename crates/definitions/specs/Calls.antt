@@ -15,7 +15,8 @@
 --   decryptedValue   w;  decryptedElement: w modulo ℓ;  tailClear: the tail test;  messageOf: the octets of a message
 --   ..Answer         keygenAnswer (01: key making), isZeroAnswer (zero test), encryptAnswer (sealing), addAnswer (adding),
 --                    decryptAnswer (opening): the answer, from the octets given and the lengths of the buffers lent
---   ..Exit           the same with every output and the work words at exit, from what they held before
+--   ..Leaves         what the caller has at exit: the number, every output and the work words, from an answer and what they held before
+--   ..Exit           the same from what the call was lent: what contracts equate
 --
 -- Each answer is two ordered lists of tests, up to the length test and after it, and the values that are given where no test applies.
 -- Assumes nothing.
@@ -200,7 +201,7 @@ decryptAnswer p secret ciphertext messageLen workLen =
     ∷ [])
     (messageOf p (decryptedFrom p secret ciphertext))
 
--- ---- what the caller has at exit: the number, every output and the work words
+-- ---- what the caller has at exit: the number, every output and the work words, from the answer and what was there before
 
 pub record KeygenExit : Type 0 where
   pub refusal : ℕ
@@ -209,9 +210,8 @@ pub record KeygenExit : Type 0 where
   pub used : ℕ
   pub work : List ℕ
 
-unfoldable pub keygenExit : Parameters → List ℕ → List ℕ → List ℕ → ℕ → List ℕ → KeygenExit
-keygenExit p random secret public used work =
-    let a = keygenAnswer p random (length secret) (length public) (length work) in
+abbrev pub keygenLeaves : Answer KeyPair → List ℕ → List ℕ → ℕ → List ℕ → KeygenExit
+keygenLeaves a secret public used work =
     record {
       refusal = number a;
       secret = output (λ k. k .secret) a secret;
@@ -220,15 +220,20 @@ keygenExit p random secret public used work =
       work = workAtExit a work;
     }
 
+unfoldable pub keygenExit : Parameters → List ℕ → List ℕ → List ℕ → ℕ → List ℕ → KeygenExit
+keygenExit p random secret public used work =
+    keygenLeaves (keygenAnswer p random (length secret) (length public) (length work)) secret public used work
+
 pub record IsZeroExit : Type 0 where
   pub refusal : ℕ
   pub zero : ℕ
   pub work : List ℕ
 
+abbrev pub isZeroLeaves : Answer Bool → ℕ → List ℕ → IsZeroExit
+isZeroLeaves a old work = record { refusal = number a; zero = output (λ holds. cond holds 1 0) a old; work = workAtExit a work }
+
 unfoldable pub isZeroExit : Parameters → List ℕ → List ℕ → ℕ → List ℕ → IsZeroExit
-isZeroExit p secret public answered work =
-    let a = isZeroAnswer p secret public (length work) in
-    record { refusal = number a; zero = output (λ holds. cond holds 1 0) a answered; work = workAtExit a work }
+isZeroExit p secret public old work = isZeroLeaves (isZeroAnswer p secret public (length work)) old work
 
 pub record EncryptExit : Type 0 where
   pub refusal : ℕ
@@ -236,9 +241,8 @@ pub record EncryptExit : Type 0 where
   pub used : ℕ
   pub work : List ℕ
 
-unfoldable pub encryptExit : Parameters → List ℕ → List ℕ → List ℕ → List ℕ → ℕ → List ℕ → EncryptExit
-encryptExit p public message random ciphertext used work =
-    let a = encryptAnswer p public message random (length ciphertext) (length work) in
+abbrev pub encryptLeaves : Answer Encrypted → List ℕ → ℕ → List ℕ → EncryptExit
+encryptLeaves a ciphertext used work =
     record {
       refusal = number a;
       ciphertext = output (λ e. e .ciphertext) a ciphertext;
@@ -246,21 +250,28 @@ encryptExit p public message random ciphertext used work =
       work = workAtExit a work;
     }
 
+unfoldable pub encryptExit : Parameters → List ℕ → List ℕ → List ℕ → List ℕ → ℕ → List ℕ → EncryptExit
+encryptExit p public message random ciphertext used work =
+    encryptLeaves (encryptAnswer p public message random (length ciphertext) (length work)) ciphertext used work
+
 pub record AddExit : Type 0 where
   pub refusal : ℕ
   pub sum : List ℕ
 
+abbrev pub addLeaves : Answer (List ℕ) → List ℕ → AddExit
+addLeaves a sum = record { refusal = number a; sum = output (λ c. c) a sum }
+
 unfoldable pub addExit : Parameters → List ℕ → List ℕ → List ℕ → AddExit
-addExit p a b sum =
-    let given = addAnswer p a b (length sum) in
-    record { refusal = number given; sum = output (λ c. c) given sum }
+addExit p a b sum = addLeaves (addAnswer p a b (length sum)) sum
 
 pub record DecryptExit : Type 0 where
   pub refusal : ℕ
   pub message : List ℕ
   pub work : List ℕ
 
+abbrev pub decryptLeaves : Answer (List ℕ) → List ℕ → List ℕ → DecryptExit
+decryptLeaves a message work = record { refusal = number a; message = output (λ m. m) a message; work = workAtExit a work }
+
 unfoldable pub decryptExit : Parameters → List ℕ → List ℕ → List ℕ → List ℕ → DecryptExit
 decryptExit p secret ciphertext message work =
-    let a = decryptAnswer p secret ciphertext (length message) (length work) in
-    record { refusal = number a; message = output (λ m. m) a message; work = workAtExit a work }
+    decryptLeaves (decryptAnswer p secret ciphertext (length message) (length work)) message work

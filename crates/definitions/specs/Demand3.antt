@@ -2,24 +2,30 @@
 --
 --   AcceptedSet      a set that no test of 1 to 5 refuses
 --   ZeroOf           a secret that is a zero of the key (01: a fitting secret): its zero test answers yes
+--   InSmallRing      a list of the n coefficients of an element of R_ℓ;  secretOf: the octets of a secret, from its two elements
 --   WellFormed       octets of a ciphertext's exact length with every coefficient below q (01: well formed)
 --   DecryptsTo       decryption answers 6 where a length is not the exact one, otherwise 0 and the message of the numbers modulo ℓ
 --   MadeKeys         every made key has its secret as a zero
+--   SmallZeros       a pair of small elements is a zero of a key just where the key's value there is 0 (01: a small secret)
+--   ZeroPastMessage  an entry's places past mlen bits hold 0
 --   EntryHolds       what holds of a ciphertext and its entry
 --   LedgerHolds      one claim about a list of calls: a ciphertext for each entry, and EntryHolds of each
---   Alike            two ciphertexts that differ by the key times a polynomial of degree at most dr decrypt alike
+--   DiffersBy        one ciphertext is another plus the key times a polynomial of degree at most dr
+--   Alike            two ciphertexts that differ so decrypt alike
 -- Assumes nothing.
 use Prim.Native.Nat.{ℕ, _+_, _*_, _≤_, _<_, _%_}
 use mathlib.Core.Path.{_≡_}
+use mathlib.Core.Logic.{_↔_}
 use mathlib.Core.Bool.{true, cond, _&&_}
-use mathlib.Core.List.{List, []}
+use mathlib.Core.List.{List, [], _++_}
 use lib.Dec.{eqb}
 use lib.ListN.{length, getD}
 use Rattle.definitions.specs.Refusals.{firstRefusal, Answer, untouched, accepted}
-use Rattle.definitions.specs.Parameters.{Parameters, degree, smallBits, bound, setTests, monomialCount, ciphertextLength, messageLength, workLength}
-use Rattle.definitions.specs.Ring.{Element, modulo}
-use Rattle.definitions.specs.Monomials.{Polynomial, productOf}
-use Rattle.definitions.specs.Calls.{KeyPair, polynomialFrom, elementsFit, keygenAnswer, isZeroAnswer, messageOf, decryptAnswer}
+use Rattle.definitions.specs.Parameters.{Parameters, degree, smallBits, bound, setTests, monomialCount, smallLength, publicLength, ciphertextLength, messageLength, workLength}
+use Rattle.definitions.specs.Ring.{Element, elementOf, modulo, InRing}
+use Rattle.definitions.specs.Monomials.{Polynomial, productOf, value}
+use Rattle.definitions.specs.Octets.{packed}
+use Rattle.definitions.specs.Calls.{KeyPair, secretX, secretY, polynomialFrom, elementsFit, keygenAnswer, isZeroAnswer, messageOf, decryptAnswer}
 use Rattle.definitions.specs.Ledger.{Call, Entry, noEntry, givenBy, events, ledger, Legal}
 
 abbrev pub AcceptedSet : Parameters → Type 0
@@ -27,6 +33,15 @@ AcceptedSet p = firstRefusal (setTests p) ≡ 0
 
 abbrev pub ZeroOf : Parameters → List ℕ → List ℕ → Type 0
 ZeroOf p public secret = isZeroAnswer p secret public (workLength p) ≡ accepted true
+
+-- coefficients of an element of R_ℓ, as a list (01: small)
+pub record InSmallRing (p : Parameters) (coefficients : List ℕ) : Type 0 where
+  pub sized : length coefficients ≡ p .n
+  pub below : InRing (p .l) (p .n) (elementOf coefficients)
+
+-- the octets of the secret u_x, u_y
+abbrev pub secretOf : Parameters → List ℕ → List ℕ → List ℕ
+secretOf p ux uy = packed (smallBits (p .l)) (smallLength p) ux ++ packed (smallBits (p .l)) (smallLength p) uy
 
 pub record WellFormed (p : Parameters) (ciphertext : List ℕ) : Type 0 where
   pub exact : length ciphertext ≡ ciphertextLength p
@@ -48,10 +63,28 @@ MadeKeys =
     keygenAnswer p random secretLen publicLen workLen ≡ accepted keys →
     ZeroOf p (keys .public) (keys .secret)
 
+-- a small secret (01): its octets are those of u_x and u_y, and it is a zero of the key just where the key's value there is 0 in R_q
+pub record SmallZero (p : Parameters) (public ux uy : List ℕ) : Type 0 where
+  pub read-x : secretX p (secretOf p ux uy) ≡ elementOf ux
+  pub read-y : secretY p (secretOf p ux uy) ≡ elementOf uy
+  pub tested :
+      ((k : ℕ) → k < p .n → value (p .n) (p .dx) (polynomialFrom p (p .dx) public) (elementOf ux) (elementOf uy) k % p .q ≡ 0)
+      ↔ ZeroOf p public (secretOf p ux uy)
+
+abbrev pub SmallZeros : Type 0
+SmallZeros =
+    (p : Parameters) → AcceptedSet p →
+    (public : List ℕ) → length public ≡ publicLength p → elementsFit p (monomialCount (p .dx)) public ≡ true →
+    (ux uy : List ℕ) → InSmallRing p ux → InSmallRing p uy → SmallZero p public ux uy
+
+-- the places past mlen bits hold 0
+abbrev pub ZeroPastMessage : Parameters → Element → Type 0
+ZeroPastMessage p places = (k : ℕ) → p .mlen ≤ k * smallBits (p .l) → places k ≡ 0
+
 pub record EntryHolds (p : Parameters) (public ciphertext : List ℕ) (entry : Entry) : Type 0 where
   pub counted : 1 ≤ entry .count
   pub well-formed : WellFormed p ciphertext
-  pub tail : (k : ℕ) → p .mlen ≤ k * smallBits (p .l) → entry .places k ≡ 0
+  pub tail : ZeroPastMessage p (entry .places)
   pub decrypts :
       entry .count * bound p < p .q → (secret : List ℕ) → ZeroOf p public secret → DecryptsTo p secret ciphertext (entry .places)
 

@@ -11,4 +11,6 @@ pub mod Conversions
 pub mod Ledger
 pub mod Roomsheet
 pub mod Demand3
+pub mod Corollaries
 pub mod WorkedCases
+pub mod Witness

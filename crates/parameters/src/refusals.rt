@@ -1,0 +1,22 @@
+// 01, "Refusal table": the numbers that a call answers. 0 is success.
+pub const RANGE: u32 = 1;
+
+pub const RING: u32 = 2;
+
+pub const DEGREE: u32 = 3;
+
+pub const MODULUS: u32 = 4;
+
+pub const MESSAGE_SIZE: u32 = 5;
+
+pub const LENGTH: u32 = 6;
+
+pub const PADDING: u32 = 7;
+
+pub const COEFFICIENT: u32 = 8;
+// 01: spent
+pub const EXHAUSTED: u32 = 9;
+
+pub const TAIL: u32 = 10;
+
+pub const LINE: u32 = 11;
