@@ -26,8 +26,8 @@ Exit status: 0, or the number of the refusal:
    5 mlen is above n x b, or no         11 --set isn't six numbers with one space between
      multiple of b
    6 a wrong length
-  64 a wrong command line, 65 text that isn't numbers, 73 a key file is there already, 74 a file can't
-  be read or written.
+  64 a wrong command line, 65 text that isn't numbers, 70 the library gave an unknown number, 73 a key file
+  is there already, 74 a file can't be read or written.
 ";
 
 pub const KEYGEN: &str = "\
