@@ -8,7 +8,7 @@ thread_local! {
     static KEPT: Cell<Vec<u32>> = const { Cell::new(Vec::new()) };
 }
 
-/// Lends exactly `words` work words to `call`.
+/// Gives `call` exactly `words` work words.
 pub(crate) fn with<T>(words: usize, call: impl FnOnce(&mut [u32]) -> T) -> T {
     // Taken out while the call runs. While a thread ends there is nothing to take, and new words serve as well.
     let mut kept = KEPT.try_with(Cell::take).unwrap_or_default();
@@ -25,7 +25,7 @@ mod tests {
     use super::*;
 
     #[test]
-    fn lends_the_exact_number_and_keeps_the_longest() {
+    fn gives_the_exact_number_and_keeps_the_longest() {
         let first = with(16, |words| {
             assert_eq!(words.len(), 16);
             words.as_ptr() as usize
