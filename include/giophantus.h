@@ -1,0 +1,243 @@
+/*
+ * giophantus.h: the Giophantus scheme for adding encrypted counts.
+ *
+ * Link with libgiophantus.a, which `rt staticlib giophantus` writes to target/staticlib at the repository's root:
+ *
+ *     cc -std=c11 -Iinclude program.c target/staticlib/libgiophantus.a
+ *
+ * The set. Every call begins with the six numbers of a parameter set, in this order:
+ *
+ *     l     2, 4, 8 or 16. A count is a small coefficient: 0 to l - 1, held in b = 1, 2, 3 or 4 bits.
+ *     q     the modulus: above the bound B of the set, at most 2147483647. It should be prime; that is the care of
+ *           whoever chooses the set, and is not tested.
+ *     n     2 to 4096, the number of coefficients of a ring element (its places, t^0 to t^(n - 1)).
+ *     dx    1 or 2, the degree of the public key in x and y.
+ *     dr    1 or 2, the degree of the polynomial drawn by encryption. A ciphertext has degree D = dx + dr.
+ *     mlen  the length of a message in bits: 0 to n * b, a multiple of b. A message has mlen / b counts.
+ *
+ * Lengths, with N(d) = (d + 1)(d + 2) / 2 and qlen the bit length of q divided by 8, rounded up:
+ *
+ *     ring element   n * qlen octets           a coefficient is qlen octets, least significant first; from t^0 up
+ *     small element  ceil(n * b / 8) octets    packed: coefficient i takes b bits from bit i * b; bit 0 is the lowest
+ *                                              bit of the first octet; unused top bits are zero
+ *     secret key     2 * ceil(n * b / 8)       the packed u_x, then the packed u_y
+ *     public key     N(dx) * n * qlen          ring elements by falling total degree, then by falling power of x
+ *     ciphertext     N(D) * n * qlen           the same
+ *     message        ceil(mlen / 8)            packed like a small element; unused bits count from mlen
+ *     work           8 * n words of 32 bits
+ *
+ * Buffers. A buffer is a pointer and then its length in elements (octets, or words for work and coefficients).
+ * Every length must be exact, random octets apart, of which any number may be given. A buffer of length 0 may
+ * have any pointer that is not null. A buffer that a call writes overlaps no other argument of that call; two
+ * buffers that are only read may be one. Words are aligned as uint32_t is.
+ *
+ * Results. A call gives 0, or the number of the first refusal that applies, by rising number. On a refusal every
+ * output, the numbers behind pointers included, holds its old contents.
+ *
+ * Work words. Key generation, encryption, decryption and the zero test take 8 * n words to work in. A refusal
+ * with 1 to 6 leaves them untouched; after every other ending they are zero. They need no preparation and may be
+ * used again.
+ *
+ * Blank fields. A count of zero is a finding, and it is encrypted like any other count. A field that was left
+ * blank is no count: it goes out under a set with mlen 0, with a message of length 0, and never as zeros. Every
+ * call works with mlen 0. Sums have one set: a blank is not one of the summands.
+ *
+ * Sums. Ciphertexts made under one set and one public key may be added, the sums again, up to the headroom: the
+ * sum of s fresh ciphertexts (one that is added twice counts twice) decrypts to the total of their counts, each
+ * modulo l, while s is at most the headroom (giophantus_limits), with a secret key that is a zero of the public
+ * key. Past the headroom nothing is promised, and no call can tell that a sum is past it: count the summands.
+ *
+ * The library allocates nothing, keeps no state and calls nothing. The source of the random octets, the primality
+ * of q and equal timing are outside it, and nothing is claimed about secrecy.
+ */
+
+#ifndef GIOPHANTUS_H
+#define GIOPHANTUS_H
+
+#include <stddef.h>
+#include <stdint.h>
+
+#ifdef __cplusplus
+extern "C" {
+#endif
+
+/* The numbers that calls give. If several refusals apply, the lowest is given. */
+enum giophantus_refusal {
+    GIOPHANTUS_OK = 0,               /* success */
+    GIOPHANTUS_RANGE = 1,            /* l isn't 2, 4, 8 or 16 */
+    GIOPHANTUS_RING = 2,             /* n is outside 2 to 4096 */
+    GIOPHANTUS_DEGREE = 3,           /* dx or dr isn't 1 or 2 */
+    GIOPHANTUS_MODULUS = 4,          /* q is above 2147483647, or not above the bound */
+    GIOPHANTUS_MESSAGE_SIZE = 5,     /* mlen is above n * b or no multiple of b */
+    GIOPHANTUS_LENGTH = 6,           /* a buffer, random octets apart, isn't of its exact length */
+    GIOPHANTUS_PADDING = 7,          /* a given packed element or message has a non-zero unused bit */
+    GIOPHANTUS_COEFFICIENT = 8,      /* a given coefficient is q or more, or l or more where a small one is expected */
+    GIOPHANTUS_RANDOM_EXHAUSTED = 9, /* the random octets end before the last draw is complete */
+    GIOPHANTUS_TAIL = 10,            /* a decrypted coefficient past mlen bits isn't zero */
+    GIOPHANTUS_LINE = 11             /* the program roomsheet met a malformed line; no call gives it */
+};
+
+/*
+ * giophantus_check: is this set accepted? There are no buffers. It gives 0, or the first of 1 to 5 that applies;
+ * every other call begins with the same tests.
+ */
+uint32_t giophantus_check(uint32_t l, uint32_t q, uint32_t n, uint32_t dx, uint32_t dr, uint32_t mlen);
+
+/*
+ * giophantus_limits: the bound and the headroom of a set. With S the sum over k from 0 to D of (k + 1) * n^k * (l
+ * - 1)^(k + 1), the bound is B = l - 1 + l * S, and the headroom is the largest whole number s with s * B < q: as
+ * many fresh ciphertexts may be added. For an accepted set both fit their 32 bits and the headroom is at least 1.
+ * Refusals: 1 to 5.
+ */
+uint32_t giophantus_limits(uint32_t l, uint32_t q, uint32_t n, uint32_t dx, uint32_t dr, uint32_t mlen,
+                           uint32_t *bound, uint32_t *headroom);
+
+/*
+ * giophantus_lengths: the exact lengths that the calls ask for: octets of a secret key, a public key, a message
+ * and a ciphertext, and the number of work words (not their octets). With mlen 0 the length of a message is 0.
+ * Refusals: 1 to 5.
+ */
+uint32_t giophantus_lengths(uint32_t l, uint32_t q, uint32_t n, uint32_t dx, uint32_t dr, uint32_t mlen,
+                            uint64_t *secret_key, uint64_t *public_key, uint64_t *message, uint64_t *ciphertext,
+                            uint64_t *work);
+
+/*
+ * giophantus_keygen: make a secret key and a public key from random octets, of which it reads as many as it needs
+ * from the front and says in *used how many. It takes ceil(n * b / 8) octets for each of u_x and u_y, then qlen
+ * octets for each coefficient of the public key but those of the constant; a group of qlen octets whose number
+ * (modulo 2 to the bit length of q) is q or more is dropped and the next is taken, so the number of octets needed
+ * is not known beforehand. The secret key that it makes is always a zero of the public key. Octets that were used
+ * once must not be used again. Refusals, in order: 1 to 5; 6 where secret_key, public_key or work isn't of its
+ * exact length; 9 where the octets end too early: call again with the same octets and more behind them.
+ */
+uint32_t giophantus_keygen(uint32_t l, uint32_t q, uint32_t n, uint32_t dx, uint32_t dr, uint32_t mlen,
+                           const uint8_t *random, size_t random_len, uint8_t *secret_key, size_t secret_key_len,
+                           uint8_t *public_key, size_t public_key_len, uint32_t *work, size_t work_len,
+                           uint64_t *used);
+
+/*
+ * giophantus_is_zero: does this secret key belong to this public key? *zero is 1 where the value of the public
+ * key at (u_x, u_y) is 0 in R_q, and otherwise 0. What is promised of decryption holds for secret keys that have
+ * the answer 1. Refusals, in order: 1 to 5; 6 where secret_key, public_key or work isn't of its exact length; 7
+ * where either half of the secret key has a non-zero unused bit; 8 where a coefficient of the public key is q or
+ * more.
+ */
+uint32_t giophantus_is_zero(uint32_t l, uint32_t q, uint32_t n, uint32_t dx, uint32_t dr, uint32_t mlen,
+                            const uint8_t *secret_key, size_t secret_key_len, const uint8_t *public_key,
+                            size_t public_key_len, uint32_t *work, size_t work_len, uint32_t *zero);
+
+/*
+ * giophantus_encrypt: encrypt a message of mlen / b counts under a public key. It takes random octets as
+ * giophantus_keygen does (N(dr) * n draws below q, then N(D) small elements of ceil(n * b / 8) octets each, whose
+ * unused bits are ignored) and says in *used how many; octets that were used once must not be used again. A blank
+ * field is encrypted under the same set with mlen 0, with message_len 0 and a message pointer that is not null;
+ * it must not be encrypted as zeros. Refusals, in order: 1 to 5; 6 where public_key, message, ciphertext or work
+ * isn't of its exact length; 7 where the message has a non-zero bit from bit mlen on; 8 where a coefficient of
+ * the public key is q or more; 9 where the random octets end too early: call again with the same octets and more
+ * behind them.
+ */
+uint32_t giophantus_encrypt(uint32_t l, uint32_t q, uint32_t n, uint32_t dx, uint32_t dr, uint32_t mlen,
+                            const uint8_t *public_key, size_t public_key_len, const uint8_t *message,
+                            size_t message_len, const uint8_t *random, size_t random_len, uint8_t *ciphertext,
+                            size_t ciphertext_len, uint32_t *work, size_t work_len, uint64_t *used);
+
+/*
+ * giophantus_add: add two ciphertexts of one set and one public key, coefficient by coefficient modulo q, without
+ * decrypting them. a and b may be one buffer; sum is a buffer of its own. It takes no work words and no random
+ * octets. It cannot tell how many ciphertexts a or b already sums up, nor that one of them is a blank: the caller
+ * keeps the number of summands at or below the headroom and leaves blanks out. Refusals, in order: 1 to 5; 6
+ * where a, b or sum isn't of its exact length; 8 where a coefficient of a or of b is q or more.
+ */
+uint32_t giophantus_add(uint32_t l, uint32_t q, uint32_t n, uint32_t dx, uint32_t dr, uint32_t mlen,
+                        const uint8_t *a, size_t a_len, const uint8_t *b, size_t b_len, uint8_t *sum,
+                        size_t sum_len);
+
+/*
+ * giophantus_decrypt: decrypt a ciphertext with a secret key. It takes the value w of the ciphertext at (u_x,
+ * u_y), each coefficient as a number 0 to q - 1, and gives each modulo l; the first mlen / b of them are the
+ * message. Under a set with mlen 0 a blank decrypts to a message of length 0 (any pointer that is not null).
+ * Refusals, in order: 1 to 5; 6 where secret_key, ciphertext, message or work isn't of its exact length; 7 where
+ * either half of the secret key has a non-zero unused bit; 8 where a coefficient of the ciphertext is q or more;
+ * 10 where a coefficient past mlen bits isn't zero modulo l: a wrong secret key, a wrong mlen, a damaged
+ * ciphertext or a sum past the headroom. A decryption that is not refused is no sign that none of these happened.
+ */
+uint32_t giophantus_decrypt(uint32_t l, uint32_t q, uint32_t n, uint32_t dx, uint32_t dr, uint32_t mlen,
+                            const uint8_t *secret_key, size_t secret_key_len, const uint8_t *ciphertext,
+                            size_t ciphertext_len, uint8_t *message, size_t message_len, uint32_t *work,
+                            size_t work_len);
+
+/*
+ * giophantus_element_from_octets: the n coefficients of a ring element as words, from its n * qlen octets. A
+ * coefficient is all of its qlen octets. Refusals, in order: 1 to 5; 6 where octets or words isn't of its exact
+ * length; 8 where a coefficient is q or more. No work words.
+ */
+uint32_t giophantus_element_from_octets(uint32_t l, uint32_t q, uint32_t n, uint32_t dx, uint32_t dr, uint32_t mlen,
+                                        const uint8_t *octets, size_t octets_len, uint32_t *words,
+                                        size_t words_len);
+
+/*
+ * giophantus_element_to_octets: the n * qlen octets of a ring element, from its n coefficients as words.
+ * Refusals, in order: 1 to 5; 6 where words or octets isn't of its exact length; 8 where a word is q or more. No
+ * work words.
+ */
+uint32_t giophantus_element_to_octets(uint32_t l, uint32_t q, uint32_t n, uint32_t dx, uint32_t dr, uint32_t mlen,
+                                      const uint32_t *words, size_t words_len, uint8_t *octets, size_t octets_len);
+
+/*
+ * giophantus_small_from_octets: the n coefficients of a small element as words, each below l, from its ceil(n * b
+ * / 8) packed octets: one half of a secret key, say. Refusals, in order: 1 to 5; 6 where octets or words isn't of
+ * its exact length; 7 where an unused bit isn't zero. No work words.
+ */
+uint32_t giophantus_small_from_octets(uint32_t l, uint32_t q, uint32_t n, uint32_t dx, uint32_t dr, uint32_t mlen,
+                                      const uint8_t *octets, size_t octets_len, uint32_t *words, size_t words_len);
+
+/*
+ * giophantus_small_to_octets: the ceil(n * b / 8) packed octets of a small element, from its n coefficients as
+ * words; unused bits are written as zero. Counts followed by zeros give a message: its first ceil(mlen / 8)
+ * octets. Refusals, in order: 1 to 5; 6 where words or octets isn't of its exact length; 8 where a word is l or
+ * more. No work words.
+ */
+uint32_t giophantus_small_to_octets(uint32_t l, uint32_t q, uint32_t n, uint32_t dx, uint32_t dr, uint32_t mlen,
+                                    const uint32_t *words, size_t words_len, uint8_t *octets, size_t octets_len);
+
+/*
+ * giophantus_public_key_from_octets: the N(dx) * n coefficients of a public key as words, element by element,
+ * from its octets. Refusals, in order: 1 to 5; 6 where octets or words isn't of its exact length; 8 where a
+ * coefficient is q or more. No work words.
+ */
+uint32_t giophantus_public_key_from_octets(uint32_t l, uint32_t q, uint32_t n, uint32_t dx, uint32_t dr,
+                                           uint32_t mlen, const uint8_t *octets, size_t octets_len, uint32_t *words,
+                                           size_t words_len);
+
+/*
+ * giophantus_public_key_to_octets: the octets of a public key, from its N(dx) * n coefficients as words.
+ * Refusals, in order: 1 to 5; 6 where words or octets isn't of its exact length; 8 where a word is q or more. No
+ * work words.
+ */
+uint32_t giophantus_public_key_to_octets(uint32_t l, uint32_t q, uint32_t n, uint32_t dx, uint32_t dr, uint32_t mlen,
+                                         const uint32_t *words, size_t words_len, uint8_t *octets,
+                                         size_t octets_len);
+
+/*
+ * giophantus_ciphertext_from_octets: the N(D) * n coefficients of a ciphertext as words, element by element, from
+ * its octets. Refusals, in order: 1 to 5; 6 where octets or words isn't of its exact length; 8 where a
+ * coefficient is q or more. No work words.
+ */
+uint32_t giophantus_ciphertext_from_octets(uint32_t l, uint32_t q, uint32_t n, uint32_t dx, uint32_t dr,
+                                           uint32_t mlen, const uint8_t *octets, size_t octets_len, uint32_t *words,
+                                           size_t words_len);
+
+/*
+ * giophantus_ciphertext_to_octets: the octets of a ciphertext, from its N(D) * n coefficients as words. Refusals,
+ * in order: 1 to 5; 6 where words or octets isn't of its exact length; 8 where a word is q or more. No work
+ * words.
+ */
+uint32_t giophantus_ciphertext_to_octets(uint32_t l, uint32_t q, uint32_t n, uint32_t dx, uint32_t dr, uint32_t mlen,
+                                         const uint32_t *words, size_t words_len, uint8_t *octets,
+                                         size_t octets_len);
+
+#ifdef __cplusplus
+}
+#endif
+
+#endif

@@ -1,0 +1,191 @@
+//! What can go wrong: the refusals of the library, by number, and three errors of this package.
+
+use std::fmt;
+use std::io;
+
+/// Why a call gave no result.
+///
+/// The first eleven are the library's refusals and have a [number](Error::number). Where several apply to one call, the
+/// lowest is given. The others belong to this package.
+///
+/// ```
+/// use giophantus::{Error, Parameters};
+///
+/// let refused = Parameters::new(4, 1455, 2, 1, 1, 4).unwrap_err();
+/// assert_eq!(refused, Error::Modulus);
+/// assert_eq!(refused.number(), Some(4));
+/// assert_eq!(refused.to_string(), "refusal 4: q is above 2147483647, or not above the bound of the set");
+/// ```
+#[derive(Clone, Copy, Debug, PartialEq, Eq, Hash)]
+#[non_exhaustive]
+pub enum Error {
+    /// 1: ℓ isn't 2, 4, 8 or 16.
+    Range,
+    /// 2: n is outside 2 to 4,096.
+    Ring,
+    /// 3: dX or dr isn't 1 or 2.
+    Degree,
+    /// 4: q is above 2,147,483,647, or not above the bound of the set.
+    Modulus,
+    /// 5: mlen is above n × b or no multiple of b.
+    MessageSize,
+    /// 6: a buffer isn't of its exact length.
+    Length,
+    /// 7: a packed element or message has a non-zero unused bit.
+    Padding,
+    /// 8: a coefficient is q or more, or ℓ or more where a small one is expected.
+    Coefficient,
+    /// 9: the random octets end before the last draw is complete.
+    RandomExhausted,
+    /// 10: a decrypted coefficient past mlen bits isn't zero.
+    Tail,
+    /// 11: a line of six numbers is malformed.
+    Line,
+    /// A number that this package does not know: the library is newer than the package.
+    Unknown(u32),
+    /// Two values that were made under different sets met in one call. No refusal has this meaning, since the library
+    /// is never asked.
+    DifferentSets,
+    /// The reader that was to give random octets failed.
+    RandomSource(io::ErrorKind),
+}
+
+impl Error {
+    /// The eleven refusals, by rising number.
+    pub const REFUSALS: [Error; 11] = [
+        Error::Range,
+        Error::Ring,
+        Error::Degree,
+        Error::Modulus,
+        Error::MessageSize,
+        Error::Length,
+        Error::Padding,
+        Error::Coefficient,
+        Error::RandomExhausted,
+        Error::Tail,
+        Error::Line,
+    ];
+
+    /// The refusal's number, or `None` for [`DifferentSets`](Error::DifferentSets) and
+    /// [`RandomSource`](Error::RandomSource), which are no refusals of the library.
+    pub fn number(self) -> Option<u32> {
+        match self {
+            Error::Range => Some(1),
+            Error::Ring => Some(2),
+            Error::Degree => Some(3),
+            Error::Modulus => Some(4),
+            Error::MessageSize => Some(5),
+            Error::Length => Some(6),
+            Error::Padding => Some(7),
+            Error::Coefficient => Some(8),
+            Error::RandomExhausted => Some(9),
+            Error::Tail => Some(10),
+            Error::Line => Some(11),
+            Error::Unknown(number) => Some(number),
+            Error::DifferentSets | Error::RandomSource(_) => None,
+        }
+    }
+
+    /// The refusal with this number; `None` for 0, which is success.
+    ///
+    /// ```
+    /// use giophantus::Error;
+    ///
+    /// assert_eq!(Error::from_number(9), Some(Error::RandomExhausted));
+    /// assert_eq!(Error::from_number(0), None);
+    /// ```
+    pub fn from_number(number: u32) -> Option<Error> {
+        match number {
+            0 => None,
+            1..=11 => Some(Error::REFUSALS[number as usize - 1]),
+            _ => Some(Error::Unknown(number)),
+        }
+    }
+
+    /// What the error says, in one sentence.
+    pub fn sentence(self) -> &'static str {
+        match self {
+            Error::Range => "l isn't 2, 4, 8 or 16",
+            Error::Ring => "n is outside 2 to 4096",
+            Error::Degree => "dX or dr isn't 1 or 2",
+            Error::Modulus => "q is above 2147483647, or not above the bound of the set",
+            Error::MessageSize => "mlen is above n * b or no multiple of b",
+            Error::Length => "a buffer isn't of its exact length",
+            Error::Padding => "a packed element or message has a non-zero unused bit",
+            Error::Coefficient => "a coefficient is q or more, or l or more where a small one is expected",
+            Error::RandomExhausted => "the random octets end before the last draw is complete",
+            Error::Tail => "a decrypted coefficient past mlen bits isn't zero",
+            Error::Line => "a line of six numbers is malformed",
+            Error::Unknown(_) => "the library gave a number that this package does not know",
+            Error::DifferentSets => "two values belong to different sets",
+            Error::RandomSource(_) => "the source of random octets failed",
+        }
+    }
+
+    /// What to do about it, in one sentence.
+    pub fn advice(self) -> &'static str {
+        match self {
+            Error::Range => "choose l as 2, 4, 8 or 16",
+            Error::Ring => "choose n from 2 to 4096",
+            Error::Degree => "choose dX and dr as 1 or 2",
+            Error::Modulus => "choose a larger q (at most 2147483647), or a smaller l, n, dX or dr",
+            Error::MessageSize => "choose mlen as b times the number of counts, at most n * b",
+            Error::Length => "check that the data is whole and was made under this set",
+            Error::Padding => "check that the data is undamaged and was made under this set",
+            Error::Coefficient => {
+                "check that the data is undamaged and was made under this set, and that each count is below l"
+            }
+            Error::RandomExhausted => "give the same random octets again with more behind them",
+            Error::Tail => "check the secret key, mlen, and that no more ciphertexts were added than the headroom",
+            Error::Line => "write l q n dX dr mlen as six decimal numbers with one space between",
+            Error::Unknown(_) => "use the package and the library of one release",
+            Error::DifferentSets => "make both under one set; a blank is never added to counts",
+            Error::RandomSource(_) => "check the source, or name another",
+        }
+    }
+}
+
+impl fmt::Display for Error {
+    fn fmt(&self, f: &mut fmt::Formatter<'_>) -> fmt::Result {
+        if let Some(number) = self.number() {
+            write!(f, "refusal {number}: ")?;
+        }
+        f.write_str(self.sentence())?;
+        if let Error::RandomSource(kind) = self {
+            write!(f, ": {kind}")?;
+        }
+        Ok(())
+    }
+}
+
+impl std::error::Error for Error {}
+
+#[cfg(test)]
+mod tests {
+    use super::*;
+
+    #[test]
+    fn numbers_run_from_1_to_11() {
+        for (at, refusal) in Error::REFUSALS.into_iter().enumerate() {
+            let number = at as u32 + 1;
+            assert_eq!(refusal.number(), Some(number));
+            assert_eq!(Error::from_number(number), Some(refusal));
+        }
+        assert_eq!(Error::from_number(0), None);
+        assert_eq!(Error::from_number(12), Some(Error::Unknown(12)));
+        assert_eq!(Error::Unknown(12).number(), Some(12));
+        assert_eq!(Error::DifferentSets.number(), None);
+    }
+
+    #[test]
+    fn every_error_has_a_sentence_of_its_own() {
+        let mut sentences: Vec<String> = Error::REFUSALS.iter().map(Error::to_string).collect();
+        sentences.push(Error::Unknown(12).to_string());
+        sentences.push(Error::DifferentSets.to_string());
+        sentences.push(Error::RandomSource(io::ErrorKind::NotFound).to_string());
+        sentences.sort();
+        sentences.dedup();
+        assert_eq!(sentences.len(), 14);
+        assert!(sentences.iter().all(|one| !one.contains('\n')));
+    }
+}

@@ -1,0 +1,292 @@
+//! The C interface of libgiophantus.a, and the only unsafe code of this package.
+//!
+//! Each function here is a safe one over slices and references, whatever numbers and octets it is given: the library
+//! judges every argument itself and refuses by number. What the library asks of a caller (include/giophantus.h) and
+//! cannot judge is what the types of Rust give:
+//!
+//! - POINTERS: a slice's pointer is not null (empty or not) and aligned, and its length is that of the memory behind it,
+//!   initialised; the same holds for references to numbers.
+//! - NO OVERLAP: what the library writes comes in as `&mut`, so it overlaps no other argument.
+//! - NOTHING KEPT: the library keeps no state, so no pointer outlives the call, and calls from several threads do not
+//!   meet.
+
+use crate::error::Error;
+
+/// ℓ, q, n, dX, dr, mlen.
+pub(crate) type Numbers = [u32; 6];
+
+/// The lengths of a set: octets, and words of work.
+#[derive(Clone, Copy, Debug, Default, PartialEq, Eq)]
+pub(crate) struct Lengths {
+    pub secret_key: usize,
+    pub public_key: usize,
+    pub message: usize,
+    pub ciphertext: usize,
+    pub work: usize,
+}
+
+#[rustfmt::skip]
+extern "C" {
+    fn giophantus_limits(
+        l: u32, q: u32, n: u32, dx: u32, dr: u32, mlen: u32,
+        bound: *mut u32, headroom: *mut u32,
+    ) -> u32;
+    fn giophantus_lengths(
+        l: u32, q: u32, n: u32, dx: u32, dr: u32, mlen: u32,
+        secret_key: *mut u64, public_key: *mut u64, message: *mut u64, ciphertext: *mut u64, work: *mut u64,
+    ) -> u32;
+    fn giophantus_keygen(
+        l: u32, q: u32, n: u32, dx: u32, dr: u32, mlen: u32,
+        random: *const u8, random_len: usize, secret_key: *mut u8, secret_key_len: usize,
+        public_key: *mut u8, public_key_len: usize, work: *mut u32, work_len: usize, used: *mut u64,
+    ) -> u32;
+    fn giophantus_is_zero(
+        l: u32, q: u32, n: u32, dx: u32, dr: u32, mlen: u32,
+        secret_key: *const u8, secret_key_len: usize, public_key: *const u8, public_key_len: usize,
+        work: *mut u32, work_len: usize, zero: *mut u32,
+    ) -> u32;
+    fn giophantus_encrypt(
+        l: u32, q: u32, n: u32, dx: u32, dr: u32, mlen: u32,
+        public_key: *const u8, public_key_len: usize, message: *const u8, message_len: usize,
+        random: *const u8, random_len: usize, ciphertext: *mut u8, ciphertext_len: usize,
+        work: *mut u32, work_len: usize, used: *mut u64,
+    ) -> u32;
+    fn giophantus_add(
+        l: u32, q: u32, n: u32, dx: u32, dr: u32, mlen: u32,
+        a: *const u8, a_len: usize, b: *const u8, b_len: usize, sum: *mut u8, sum_len: usize,
+    ) -> u32;
+    fn giophantus_decrypt(
+        l: u32, q: u32, n: u32, dx: u32, dr: u32, mlen: u32,
+        secret_key: *const u8, secret_key_len: usize, ciphertext: *const u8, ciphertext_len: usize,
+        message: *mut u8, message_len: usize, work: *mut u32, work_len: usize,
+    ) -> u32;
+}
+
+/// Success or the refusal with this number.
+fn accepted(number: u32) -> Result<(), Error> {
+    Error::from_number(number).map_or(Ok(()), Err)
+}
+
+/// The bound and the headroom.
+pub(crate) fn limits([l, q, n, dx, dr, mlen]: Numbers) -> Result<(u32, u32), Error> {
+    let (mut bound, mut headroom) = (0, 0);
+    // SAFETY: POINTERS and NO OVERLAP, both to locals of this function; NOTHING KEPT.
+    accepted(unsafe { giophantus_limits(l, q, n, dx, dr, mlen, &mut bound, &mut headroom) })?;
+    Ok((bound, headroom))
+}
+
+/// The lengths of keys, messages, ciphertexts and work. None passes 2^20 for an accepted set.
+pub(crate) fn lengths([l, q, n, dx, dr, mlen]: Numbers) -> Result<Lengths, Error> {
+    let (mut secret_key, mut public_key, mut message, mut ciphertext, mut work) = (0, 0, 0, 0, 0);
+    // SAFETY: POINTERS and NO OVERLAP, all to locals of this function; NOTHING KEPT.
+    accepted(unsafe {
+        giophantus_lengths(
+            l,
+            q,
+            n,
+            dx,
+            dr,
+            mlen,
+            &mut secret_key,
+            &mut public_key,
+            &mut message,
+            &mut ciphertext,
+            &mut work,
+        )
+    })?;
+    Ok(Lengths {
+        secret_key: secret_key as usize,
+        public_key: public_key as usize,
+        message: message as usize,
+        ciphertext: ciphertext as usize,
+        work: work as usize,
+    })
+}
+
+/// Keys from random octets; answers the octets used.
+pub(crate) fn keygen(
+    [l, q, n, dx, dr, mlen]: Numbers,
+    random: &[u8],
+    secret_key: &mut [u8],
+    public_key: &mut [u8],
+    work: &mut [u32],
+) -> Result<u64, Error> {
+    let mut used = 0;
+    // SAFETY: POINTERS; NO OVERLAP: secret_key, public_key and work are `&mut`, used is a local; NOTHING KEPT.
+    accepted(unsafe {
+        giophantus_keygen(
+            l,
+            q,
+            n,
+            dx,
+            dr,
+            mlen,
+            random.as_ptr(),
+            random.len(),
+            secret_key.as_mut_ptr(),
+            secret_key.len(),
+            public_key.as_mut_ptr(),
+            public_key.len(),
+            work.as_mut_ptr(),
+            work.len(),
+            &mut used,
+        )
+    })?;
+    Ok(used)
+}
+
+/// The zero test.
+pub(crate) fn is_zero(
+    [l, q, n, dx, dr, mlen]: Numbers,
+    secret_key: &[u8],
+    public_key: &[u8],
+    work: &mut [u32],
+) -> Result<bool, Error> {
+    let mut zero = 0;
+    // SAFETY: POINTERS; NO OVERLAP: work is `&mut`, zero is a local; NOTHING KEPT.
+    accepted(unsafe {
+        giophantus_is_zero(
+            l,
+            q,
+            n,
+            dx,
+            dr,
+            mlen,
+            secret_key.as_ptr(),
+            secret_key.len(),
+            public_key.as_ptr(),
+            public_key.len(),
+            work.as_mut_ptr(),
+            work.len(),
+            &mut zero,
+        )
+    })?;
+    Ok(zero == 1)
+}
+
+/// A ciphertext from a message and random octets; answers the octets used.
+pub(crate) fn encrypt(
+    [l, q, n, dx, dr, mlen]: Numbers,
+    public_key: &[u8],
+    message: &[u8],
+    random: &[u8],
+    ciphertext: &mut [u8],
+    work: &mut [u32],
+) -> Result<u64, Error> {
+    let mut used = 0;
+    // SAFETY: POINTERS; NO OVERLAP: ciphertext and work are `&mut`, used is a local; NOTHING KEPT.
+    accepted(unsafe {
+        giophantus_encrypt(
+            l,
+            q,
+            n,
+            dx,
+            dr,
+            mlen,
+            public_key.as_ptr(),
+            public_key.len(),
+            message.as_ptr(),
+            message.len(),
+            random.as_ptr(),
+            random.len(),
+            ciphertext.as_mut_ptr(),
+            ciphertext.len(),
+            work.as_mut_ptr(),
+            work.len(),
+            &mut used,
+        )
+    })?;
+    Ok(used)
+}
+
+/// The sum of two ciphertexts, which may be one.
+pub(crate) fn add([l, q, n, dx, dr, mlen]: Numbers, a: &[u8], b: &[u8], sum: &mut [u8]) -> Result<(), Error> {
+    // SAFETY: POINTERS; NO OVERLAP: sum is `&mut`, and a and b, which are only read, may be one; NOTHING KEPT.
+    accepted(unsafe {
+        giophantus_add(l, q, n, dx, dr, mlen, a.as_ptr(), a.len(), b.as_ptr(), b.len(), sum.as_mut_ptr(), sum.len())
+    })
+}
+
+/// The message of a ciphertext.
+pub(crate) fn decrypt(
+    [l, q, n, dx, dr, mlen]: Numbers,
+    secret_key: &[u8],
+    ciphertext: &[u8],
+    message: &mut [u8],
+    work: &mut [u32],
+) -> Result<(), Error> {
+    // SAFETY: POINTERS; NO OVERLAP: message and work are `&mut`; NOTHING KEPT.
+    accepted(unsafe {
+        giophantus_decrypt(
+            l,
+            q,
+            n,
+            dx,
+            dr,
+            mlen,
+            secret_key.as_ptr(),
+            secret_key.len(),
+            ciphertext.as_ptr(),
+            ciphertext.len(),
+            message.as_mut_ptr(),
+            message.len(),
+            work.as_mut_ptr(),
+            work.len(),
+        )
+    })
+}
+
+/// A conversion from octets to words and the one back: the C functions and a safe function over each.
+macro_rules! conversions {
+    ($($c_from:ident $c_to:ident, $from:ident $to:ident: $what:literal;)*) => {
+        #[rustfmt::skip]
+        extern "C" {
+            $(
+                fn $c_from(
+                    l: u32, q: u32, n: u32, dx: u32, dr: u32, mlen: u32,
+                    octets: *const u8, octets_len: usize, words: *mut u32, words_len: usize,
+                ) -> u32;
+                fn $c_to(
+                    l: u32, q: u32, n: u32, dx: u32, dr: u32, mlen: u32,
+                    words: *const u32, words_len: usize, octets: *mut u8, octets_len: usize,
+                ) -> u32;
+            )*
+        }
+        $(
+            #[doc = concat!("The words of ", $what, ".")]
+            pub(crate) fn $from(
+                [l, q, n, dx, dr, mlen]: Numbers,
+                octets: &[u8],
+                words: &mut [u32],
+            ) -> Result<(), Error> {
+                let (from, from_len) = (octets.as_ptr(), octets.len());
+                let (to, to_len) = (words.as_mut_ptr(), words.len());
+                // SAFETY: POINTERS; NO OVERLAP: words is `&mut`; NOTHING KEPT.
+                accepted(unsafe { $c_from(l, q, n, dx, dr, mlen, from, from_len, to, to_len) })
+            }
+
+            #[doc = concat!("The octets of ", $what, ".")]
+            pub(crate) fn $to(
+                [l, q, n, dx, dr, mlen]: Numbers,
+                words: &[u32],
+                octets: &mut [u8],
+            ) -> Result<(), Error> {
+                let (from, from_len) = (words.as_ptr(), words.len());
+                let (to, to_len) = (octets.as_mut_ptr(), octets.len());
+                // SAFETY: POINTERS; NO OVERLAP: octets is `&mut`; NOTHING KEPT.
+                accepted(unsafe { $c_to(l, q, n, dx, dr, mlen, from, from_len, to, to_len) })
+            }
+        )*
+    };
+}
+
+conversions! {
+    giophantus_element_from_octets giophantus_element_to_octets,
+        element_from_octets element_to_octets: "a ring element";
+    giophantus_small_from_octets giophantus_small_to_octets,
+        small_from_octets small_to_octets: "a small element";
+    giophantus_public_key_from_octets giophantus_public_key_to_octets,
+        public_key_from_octets public_key_to_octets: "a public key";
+    giophantus_ciphertext_from_octets giophantus_ciphertext_to_octets,
+        ciphertext_from_octets ciphertext_to_octets: "a ciphertext";
+}

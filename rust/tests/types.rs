@@ -1,0 +1,315 @@
+//! The types: what they accept, what they refuse, and sums.
+
+use std::io::Read;
+
+use giophantus::{Ciphertext, Error, FixedSet, Keys, Message, Parameters, PublicKey, SecretKey};
+
+/// Octets that are the same on every run (splitmix64). Not for keys.
+struct Octets(u64);
+
+impl Octets {
+    fn number(&mut self) -> u64 {
+        self.0 = self.0.wrapping_add(0x9E37_79B9_7F4A_7C15);
+        let z = (self.0 ^ (self.0 >> 30)).wrapping_mul(0xBF58_476D_1CE4_E5B9);
+        let z = (z ^ (z >> 27)).wrapping_mul(0x94D0_49BB_1331_11EB);
+        z ^ (z >> 31)
+    }
+
+    fn below(&mut self, limit: u32) -> u32 {
+        (self.number() % u64::from(limit)) as u32
+    }
+}
+
+impl Read for Octets {
+    fn read(&mut self, buffer: &mut [u8]) -> std::io::Result<usize> {
+        for octet in buffer.iter_mut() {
+            *octet = (self.number() >> 56) as u8;
+        }
+        Ok(buffer.len())
+    }
+}
+
+/// Every ℓ, every pair of degrees, qlen 1 to 4, messages of no, some and all places.
+const SETS: [&str; 12] = [
+    "2 73 2 1 1 2",
+    "2 251 3 1 1 2",
+    "4 1459 2 1 1 4",
+    "4 65521 2 1 1 2",
+    "4 2147483647 9 1 2 18",
+    "4 2147483647 25 2 2 30",
+    "8 8388593 3 1 1 9",
+    "8 2147483647 7 2 1 15",
+    "8 2147483647 7 2 2 21",
+    "16 2147483647 64 1 1 256",
+    "16 52129279 8 1 1 16",
+    "2 2147483647 30 2 1 0",
+];
+
+fn sets() -> impl Iterator<Item = Parameters> {
+    SETS.into_iter().map(|line| line.parse().unwrap_or_else(|error| panic!("{line}: {error}")))
+}
+
+#[test]
+fn sums_within_the_headroom_decrypt_to_the_totals() {
+    let mut octets = Octets(1);
+    for set in sets() {
+        let Keys { secret_key, public_key, .. } = set.keygen_from(&mut octets).unwrap();
+        assert!(secret_key.is_zero_of(&public_key).unwrap());
+        let mut totals = vec![0; set.counts_len()];
+        let mut sum: Option<Ciphertext> = None;
+        for _ in 0..set.headroom().min(40) {
+            let counts: Vec<u32> = totals.iter().map(|_| octets.below(set.l())).collect();
+            let message = Message::from_counts(&set, &counts).unwrap();
+            assert_eq!(message.to_counts(), counts);
+            let fresh = public_key.encrypt_from(&message, &mut octets).unwrap().ciphertext;
+            assert_eq!(secret_key.decrypt(&fresh).unwrap(), message);
+            totals.iter_mut().zip(&counts).for_each(|(total, count)| *total += count);
+            let next = match sum {
+                Some(sum) => (sum + &fresh).unwrap(),
+                None => fresh,
+            };
+            let expected: Vec<u32> = totals.iter().map(|total| total % set.l()).collect();
+            assert_eq!(secret_key.decrypt(&next).unwrap().to_counts(), expected, "{set}");
+            sum = Some(next);
+        }
+    }
+}
+
+#[test]
+fn a_reader_gives_what_a_slice_gives_and_loses_nothing() {
+    for set in sets() {
+        let mut source = vec![0; 1 << 16];
+        Octets(u64::from(set.n())).read_exact(&mut source).unwrap();
+        let whole = set.keygen(&source).unwrap();
+        let mut rest = &source[..];
+        let read = set.keygen_from(&mut rest).unwrap();
+        assert_eq!(read.public_key, whole.public_key);
+        assert_eq!(read.secret_key.as_ref(), whole.secret_key.as_ref());
+        assert_eq!(read.used, whole.used);
+        assert_eq!(rest.len(), source.len() - whole.used);
+
+        let message = Message::from_counts(&set, &vec![1; set.counts_len()]).unwrap();
+        let whole = whole.public_key.encrypt(&message, rest).unwrap();
+        let before = rest.len();
+        let read = read.public_key.encrypt_from(&message, &mut rest).unwrap();
+        assert_eq!(read.ciphertext, whole.ciphertext);
+        assert_eq!((read.used, before - rest.len()), (whole.used, whole.used));
+    }
+}
+
+#[test]
+fn one_octet_less_than_used_is_exhausted() {
+    for set in sets() {
+        let mut source = vec![0; 1 << 16];
+        Octets(7).read_exact(&mut source).unwrap();
+        let keys = set.keygen(&source).unwrap();
+        assert_eq!(set.keygen(&source[..keys.used]).unwrap().used, keys.used);
+        assert_eq!(set.keygen(&source[..keys.used - 1]).unwrap_err(), Error::RandomExhausted);
+        assert_eq!(set.keygen_from(&source[..keys.used - 1]).unwrap_err(), Error::RandomExhausted);
+        assert_eq!(set.keygen(&[]).unwrap_err(), Error::RandomExhausted);
+    }
+}
+
+#[test]
+fn a_source_that_is_always_dropped_is_exhausted() {
+    let set = Parameters::new(4, 1459, 2, 1, 1, 4).unwrap();
+    assert_eq!(set.keygen_from(std::io::repeat(0xFF)).unwrap_err(), Error::RandomExhausted);
+}
+
+#[test]
+fn a_source_that_fails_says_so() {
+    struct Broken;
+    impl Read for Broken {
+        fn read(&mut self, _: &mut [u8]) -> std::io::Result<usize> {
+            Err(std::io::ErrorKind::ConnectionReset.into())
+        }
+    }
+    let set = Parameters::new(4, 1459, 2, 1, 1, 4).unwrap();
+    let error = set.keygen_from(Broken).unwrap_err();
+    assert_eq!(error, Error::RandomSource(std::io::ErrorKind::ConnectionReset));
+    assert_eq!(error.number(), None);
+}
+
+#[test]
+fn octets_of_another_length_are_refused() {
+    for set in sets() {
+        let zeros = |len: usize| vec![0u8; len];
+        let lengths = [set.secret_key_len(), set.public_key_len(), set.ciphertext_len(), set.message_len()]
+            .map(|len| [Some(len + 1), len.checked_sub(1)].into_iter().flatten().map(zeros).collect::<Vec<_>>());
+        let [secret_keys, public_keys, ciphertexts, messages] = lengths;
+        for octets in secret_keys {
+            assert_eq!(SecretKey::try_from((&set, &octets[..])).unwrap_err(), Error::Length);
+        }
+        for octets in public_keys {
+            assert_eq!(PublicKey::try_from((&set, &octets[..])), Err(Error::Length));
+        }
+        for octets in ciphertexts {
+            assert_eq!(Ciphertext::try_from((&set, &octets[..])), Err(Error::Length));
+        }
+        for octets in messages {
+            assert_eq!(Message::try_from((&set, &octets[..])), Err(Error::Length));
+        }
+    }
+}
+
+#[test]
+fn every_unused_bit_is_judged() {
+    for set in sets() {
+        let used = (set.n() * set.b()) as usize;
+        for half in 0..2 {
+            for bit in 0..set.small_len() * 8 {
+                let mut octets = vec![0; set.secret_key_len()];
+                octets[half * set.small_len() + bit / 8] |= 1 << (bit % 8);
+                let judged = SecretKey::try_from((&set, &octets[..]));
+                assert_eq!(judged.err(), (bit >= used).then_some(Error::Padding), "{set}: bit {bit} of half {half}");
+            }
+        }
+        for bit in 0..set.message_len() * 8 {
+            let mut octets = vec![0; set.message_len()];
+            octets[bit / 8] |= 1 << (bit % 8);
+            let judged = Message::try_from((&set, &octets[..]));
+            assert_eq!(judged.err(), (bit >= set.mlen() as usize).then_some(Error::Padding), "{set}: bit {bit}");
+        }
+    }
+}
+
+#[test]
+fn words_and_octets_are_inverse() {
+    let mut octets = Octets(3);
+    for set in sets() {
+        let n = set.n() as usize;
+        let element: Vec<u32> = (0..n).map(|_| octets.below(set.q())).collect();
+        assert_eq!(set.element_from_octets(&set.element_to_octets(&element).unwrap()).unwrap(), element);
+        let small: Vec<u32> = (0..2 * n).map(|_| octets.below(set.l())).collect();
+        assert_eq!(set.small_from_octets(&set.small_to_octets(&small[..n]).unwrap()).unwrap(), small[..n]);
+        assert_eq!(SecretKey::from_words(&set, &small).unwrap().to_words(), small);
+
+        let words = set.public_key_len() / set.coefficient_len();
+        let words: Vec<u32> = (0..words).map(|_| octets.below(set.q())).collect();
+        let public_key = PublicKey::from_words(&set, &words).unwrap();
+        assert_eq!(public_key.to_words(), words);
+        assert_eq!(PublicKey::try_from((&set, public_key.as_ref())), Ok(public_key));
+
+        let words = set.ciphertext_len() / set.coefficient_len();
+        let words: Vec<u32> = (0..words).map(|_| octets.below(set.q())).collect();
+        let ciphertext = Ciphertext::from_words(&set, &words).unwrap();
+        assert_eq!(ciphertext.to_words(), words);
+        assert_eq!(Ciphertext::try_from((&set, ciphertext.as_ref())), Ok(ciphertext));
+    }
+}
+
+#[test]
+fn words_that_are_too_large_or_too_many_are_refused() {
+    for set in sets() {
+        let n = set.n() as usize;
+        let last = |len: usize, word: u32| {
+            let mut words = vec![0; len];
+            words[len - 1] = word;
+            words
+        };
+        assert!(set.element_to_octets(&last(n, set.q() - 1)).is_ok());
+        assert_eq!(set.element_to_octets(&last(n, set.q())), Err(Error::Coefficient));
+        assert_eq!(set.element_to_octets(&last(n + 1, 0)), Err(Error::Length));
+        assert!(set.small_to_octets(&last(n, set.l() - 1)).is_ok());
+        assert_eq!(set.small_to_octets(&last(n, set.l())), Err(Error::Coefficient));
+        assert_eq!(SecretKey::from_words(&set, &last(2 * n, set.l())).unwrap_err(), Error::Coefficient);
+        assert_eq!(SecretKey::from_words(&set, &last(2 * n - 1, 0)).unwrap_err(), Error::Length);
+        let (words, ciphertext_words) =
+            (set.public_key_len() / set.coefficient_len(), set.ciphertext_len() / set.coefficient_len());
+        assert_eq!(PublicKey::from_words(&set, &last(words, set.q())), Err(Error::Coefficient));
+        assert_eq!(PublicKey::from_words(&set, &last(words - 1, 0)), Err(Error::Length));
+        assert_eq!(Ciphertext::from_words(&set, &last(ciphertext_words, set.q())), Err(Error::Coefficient));
+        assert_eq!(Ciphertext::from_words(&set, &last(ciphertext_words + 1, 0)), Err(Error::Length));
+        if set.counts_len() > 0 {
+            assert_eq!(Message::from_counts(&set, &last(set.counts_len(), set.l())), Err(Error::Coefficient));
+            assert_eq!(Message::from_counts(&set, &last(set.counts_len(), 0)[1..]), Err(Error::Length));
+        }
+        assert_eq!(Message::from_counts(&set, &last(set.counts_len() + 1, 0)), Err(Error::Length));
+    }
+}
+
+#[test]
+fn values_of_two_sets_never_meet() {
+    let mut octets = Octets(4);
+    let set = Parameters::new(4, 65521, 2, 1, 1, 4).unwrap();
+    let blank = set.blank();
+    let keys = set.keygen_from(&mut octets).unwrap();
+    let zeros = Message::from_counts(&set, &[0, 0]).unwrap();
+    let nothing = Message::from_counts(&blank, &[]).unwrap();
+    assert_eq!(keys.public_key.encrypt(&nothing, &[0; 99]).unwrap_err(), Error::DifferentSets);
+
+    // A blank goes out with the same key under the set for blanks, and is not one of the summands.
+    let (blank_key, blank_secret) = (keys.public_key.blank(), keys.secret_key.blank());
+    assert_eq!(PublicKey::try_from((&blank, keys.public_key.as_ref())).as_ref(), Ok(&blank_key));
+    let sent = blank_key.encrypt_from(&nothing, &mut octets).unwrap().ciphertext;
+    let counts = keys.public_key.encrypt_from(&zeros, &mut octets).unwrap().ciphertext;
+    assert_eq!(counts.as_ref().len(), sent.as_ref().len());
+    assert_eq!(&counts + &sent, Err(Error::DifferentSets));
+    assert_eq!(Ciphertext::try_sum([&counts, &sent]), Err(Error::DifferentSets));
+    assert_eq!(keys.secret_key.decrypt(&sent), Err(Error::DifferentSets));
+    assert_eq!(keys.secret_key.is_zero_of(&blank_key), Err(Error::DifferentSets));
+    assert!(blank_secret.decrypt(&sent).unwrap().is_blank());
+    assert_eq!(keys.secret_key.decrypt(&counts).unwrap(), zeros);
+}
+
+/// Four counts of 0 to 15. A tag needs nothing but its numbers.
+enum Trial {}
+
+impl FixedSet for Trial {
+    const NUMBERS: [u32; 6] = [16, 52129279, 8, 1, 1, 16];
+}
+
+enum Unfit {}
+
+impl FixedSet for Unfit {
+    const NUMBERS: [u32; 6] = [16, 10425855, 8, 1, 1, 16];
+}
+
+#[test]
+fn with_a_tag_octets_alone_suffice() {
+    let set = Parameters::<Trial>::fixed().unwrap();
+    assert_eq!(set.any(), "16 52129279 8 1 1 16".parse().unwrap());
+    let mut octets = Octets(5);
+    let keys = set.keygen_from(&mut octets).unwrap().clone();
+    let message = Message::from_counts(&set, &[1, 2, 3, 15]).unwrap();
+    let ciphertext = keys.public_key.encrypt_from(&message, &mut octets).unwrap().clone().ciphertext;
+
+    let secret_key = SecretKey::<Trial>::try_from(keys.secret_key.as_ref()).unwrap();
+    let public_key = PublicKey::<Trial>::try_from(keys.public_key.as_ref()).unwrap();
+    let ciphertext = Ciphertext::<Trial>::try_from(ciphertext.as_ref()).unwrap();
+    assert!(secret_key.is_zero_of(&public_key).unwrap());
+    assert_eq!(secret_key.decrypt(&ciphertext).unwrap(), Message::<Trial>::try_from(message.as_ref()).unwrap());
+    assert_eq!(Vec::from(ciphertext.clone()), ciphertext.as_ref());
+
+    assert_eq!(Ciphertext::<Trial>::try_from(&[0; 3][..]), Err(Error::Length));
+    assert_eq!(Ciphertext::<Unfit>::try_from(&[0; 192][..]).unwrap_err(), Error::Modulus);
+}
+
+#[test]
+fn debug_prints_no_secret() {
+    let set = Parameters::new(4, 65521, 2, 1, 1, 4).unwrap();
+    let keys = set.keygen(&[0x0B; 100]).unwrap();
+    let message = Message::from_counts(&set, &[2, 3]).unwrap();
+    assert_eq!(format!("{:?}", keys.secret_key), "SecretKey { set: 4 65521 2 1 1 4, .. }");
+    assert_eq!(format!("{message:?}"), "Message { set: 4 65521 2 1 1 4, .. }");
+    let shown = format!("{keys:?}");
+    assert!(shown.contains("SecretKey { set: 4 65521 2 1 1 4, .. }"), "{shown}");
+    assert!(shown.contains("octets: 0B0B0B0B0B0B0B0B"), "{shown}");
+}
+
+#[test]
+fn threads_share_a_key() {
+    let set: Parameters = "16 2147483647 64 1 1 256".parse().unwrap();
+    let keys = set.keygen_from(Octets(8)).unwrap();
+    let counts = vec![3; 64];
+    std::thread::scope(|scope| {
+        for seed in 0..4 {
+            let (keys, counts, set) = (&keys, &counts, &set);
+            scope.spawn(move || {
+                let message = Message::from_counts(set, counts).unwrap();
+                let ciphertext = keys.public_key.encrypt_from(&message, Octets(seed)).unwrap().ciphertext;
+                assert_eq!(&keys.secret_key.decrypt(&ciphertext).unwrap().to_counts(), counts);
+            });
+        }
+    });
+}
