@@ -63,13 +63,13 @@ zero-told p public secret e =
     let lengths = both-true _ _ (first .1) in
     let rest = both-true _ _ (lengths .1) in
     let padding = firstRefusal-passed 7 _ _ (lit< tt) (told .1) in
-    let fitting = firstRefusal-passed 8 _ _ (lit< tt) (padding .1) in
+    let inside = firstRefusal-passed 8 _ _ (lit< tt) (padding .1) in
     record {
       set = first .0;
       secret-exact = eqb-true _ _ (lengths .0);
       public-exact = eqb-true _ _ (rest .0);
       padded = not-false _ (padding .0);
-      fits = not-false _ (fitting .0);
+      fits = not-false _ (inside .0);
       vanishes = λ k l. eqb-true _ _ (every-at (p .n) _ (told .2) l);
     }
 
@@ -128,13 +128,13 @@ encrypt-told p public message random ciphertextLen workLen e given =
     let lengths = both-true _ _ (first .1) in
     let rest = both-true _ _ (lengths .1) in
     let padding = firstRefusal-passed 7 _ _ (lit< tt) (told .1) in
-    let fitting = firstRefusal-passed 8 _ _ (lit< tt) (padding .1) in
+    let inside = firstRefusal-passed 8 _ _ (lit< tt) (padding .1) in
     record {
       set = first .0;
       public-exact = eqb-true _ _ (lengths .0);
       message-exact = eqb-true _ _ (rest .0);
       padded = not-false _ (padding .0);
-      fits = not-false _ (fitting .0);
+      fits = not-false _ (inside .0);
       encrypted = ap (λ (x : Encrypted). x .ciphertext) (told .2);
     }
 
@@ -150,10 +150,10 @@ pub add-told : (p : Parameters) (a b : List ℕ) (sumLen : ℕ) (c : List ℕ) �
 unfolding addAnswer
 add-told p a b sumLen c given =
     let told = answer-accepted-only _ _ _ c given in
-    let fitting = both-true _ _ (not-false _ (firstRefusal-passed 8 _ _ (lit< tt) (told .1) .0)) in
+    let inside = both-true _ _ (not-false _ (firstRefusal-passed 8 _ _ (lit< tt) (told .1) .0)) in
     record {
       set = lengthTests-passed p _ (told .0) .0;
-      left-fits = fitting .0;
-      right-fits = fitting .1;
+      left-fits = inside .0;
+      right-fits = inside .1;
       added = told .2;
     }

@@ -149,8 +149,8 @@ ciphertext-room p {m} octets l w e =
     rw (w, e) (omega arith)
 
 -- the lent words, as an element
-pub lent-element : (at n : ℕ) (l : List ℕ) → at + n ≤ length l → take (at + n - at) (drop at l) ≡ tabulate n (part l at)
-lent-element at n l h =
+pub borrowed-element : (at n : ℕ) (l : List ℕ) → at + n ≤ length l → take (at + n - at) (drop at l) ≡ tabulate n (part l at)
+borrowed-element at n l h =
     let count : at + n - at ≡ n = omega arith in
     sym (tabulate-getD (take (at + n - at) (drop at l)) 0)
     ∙ ap (λ (c : ℕ). tabulate c (λ k. getD (take (at + n - at) (drop at l)) k 0)) (length-lent at n l h)

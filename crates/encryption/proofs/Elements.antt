@@ -95,8 +95,8 @@ module _ (n q c : ℕ) (old mid ys : List ℕ) (room : length old ≡ 8 * n) (si
       ((omega arith, omega arith, inr (omega arith), small), filled-inRing r s)
 
 -- the part that was lent and filled
-pub lent-filled : (n : ℕ) (old new ys : List ℕ) → new ≡ ys → length ys ≡ n → putMid (6 * n) (6 * n + n - 6 * n) old new ≡ written (6 * n) ys old
-lent-filled n old new ys e sized =
+pub borrowed-filled : (n : ℕ) (old new ys : List ℕ) → new ≡ ys → length ys ≡ n → putMid (6 * n) (6 * n + n - 6 * n) old new ≡ written (6 * n) ys old
+borrowed-filled n old new ys e sized =
     putMid-written (6 * n) n old new (ap length e ∙ sized) ∙ ap (λ (l : List ℕ). written (6 * n) l old) e
 
 pub work-words : (p : Parameters) (work : List ℕ) → length work ≡ workLength p → length work ≡ 8 * p .n

@@ -35,11 +35,11 @@ same-length c = search needs
 
 returns : tie.Need-returns
 returns c =
-    let lent = c .before .before .before .before in
-    let measured = lent .before .before in
+    let borrowed = c .before .before .before .before in
+    let measured = borrowed .before .before in
     let start = measured .before .before .before in
     let count : start .args .at + measured .small-length .result - start .args .at ≡ smallLength (setFrom (start .args .p)) = omega arith in
-    rw (lent .bits .ensures, start .pre .1, count) at (c .before .before .unpack .ensures)
+    rw (borrowed .bits .ensures, start .pre .1, count) at (c .before .before .unpack .ensures)
 
 pub draw-small-spec : {M : Type 1} → statement M
 draw-small-spec =

@@ -15,7 +15,7 @@ use Rattle.parameters.specs.Answers.{setFrom}
 use Rattle.parameters.proofs.Bounds.{smallBits-within}
 use Rattle.ring.specs.Work.{written}
 use Rattle.mask_products.proofs.Sums.{length-lent}
-use Rattle.encryption.proofs.Elements.{work-words, lent-filled, degree-most, count-most, modulus-half, message-scaled, filled-requires, summed-scaled, summed-message, summed-no-message}
+use Rattle.encryption.proofs.Elements.{work-words, borrowed-filled, degree-most, count-most, modulus-half, message-scaled, filled-requires, summed-scaled, summed-message, summed-no-message}
 use Rattle.encryption.proofs.add_message.Statement.{statement}
 use Rattle.encryption.proofs.add_message.Tie as tie
 
@@ -86,7 +86,7 @@ add-scaled-requires c κs =
     let room = work-words p (s .args .work .now) (s .pre .1) in
     let message = unpacked (smallBits (p .l)) (p .n) (s .args .message .now) in
     filled-requires (p .n) (p .q) 1 (s .args .work .now) _ message room (length-unpacked _ _ _)
-    (lent-filled (p .n) (s .args .work .now) (c .before .before .before .unpack .last .1 .1 .0) message (unpacked-told (c .before .before .before)) (length-unpacked _ _ _))
+    (borrowed-filled (p .n) (s .args .work .now) (c .before .before .before .unpack .last .1 .1 .0) message (unpacked-told (c .before .before .before)) (length-unpacked _ _ _))
     (modulus-half p set) (s .pre .3) (message-scaled p set (s .args .message .now))
 
 same-length : tie.Need-same-length
@@ -99,7 +99,7 @@ returns-2 c =
     let message = unpacked (smallBits (p .l)) (p .n) (s .args .message .now) in
     summed-message p (s .args .message .now) (s .args .m) (c .before .before .before .before .before .before .before .before .before .before .if1 .left ∙ c .before .before .before .before .before .before .before .before .before .before .before .monomial-count .ensures)
     (summed-scaled (p .n) (p .q) 1 (s .args .work .now) _ message (work-words p (s .args .work .now) (s .pre .1)) (length-unpacked _ _ _)
-    (lent-filled (p .n) (s .args .work .now) (c .before .before .before .before .before .before .unpack .last .1 .1 .0) message (unpacked-told (c .before .before .before .before .before .before)) (length-unpacked _ _ _))
+    (borrowed-filled (p .n) (s .args .work .now) (c .before .before .before .before .before .before .unpack .last .1 .1 .0) message (unpacked-told (c .before .before .before .before .before .before)) (length-unpacked _ _ _))
     (c .before .before .add-scaled .ensures))
 
 pub add-message-spec : {M : Type 1} → statement M

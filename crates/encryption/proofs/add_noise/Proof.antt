@@ -11,7 +11,7 @@ use Rattle.definitions.specs.Draws.{noiseDrawn}
 use Rattle.definitions.proofs.Parameters.{accepted-set}
 use Rattle.parameters.specs.Answers.{setFrom}
 use Rattle.ring.specs.Work.{written}
-use Rattle.encryption.proofs.Elements.{work-words, length-noise, lent-filled, modulus-half, noise-scaled, filled-requires, summed-scaled}
+use Rattle.encryption.proofs.Elements.{work-words, length-noise, borrowed-filled, modulus-half, noise-scaled, filled-requires, summed-scaled}
 use Rattle.encryption.proofs.add_noise.Statement.{statement}
 use Rattle.encryption.proofs.add_noise.Tie as tie
 
@@ -51,7 +51,7 @@ add-scaled-requires c κs =
     let set = accepted-set p (s .pre .0) in
     let noise = noiseDrawn p (drop (s .args .at) (s .args .random .now)) in
     filled-requires (p .n) (p .q) (p .l) (s .args .work .now) _ noise (work-words p (s .args .work .now) (s .pre .1)) (length-noise p _)
-    (lent-filled (p .n) (s .args .work .now) (c .before .before .before .draw-noise .last .1 .1 .1 .0) noise (c .before .before .before .draw-noise .ensures) (length-noise p _))
+    (borrowed-filled (p .n) (s .args .work .now) (c .before .before .before .draw-noise .last .1 .1 .1 .0) noise (c .before .before .before .draw-noise .ensures) (length-noise p _))
     (modulus-half p set) (s .pre .3) (noise-scaled p set _)
 
 same-length : tie.Need-same-length
@@ -63,7 +63,7 @@ returns c =
     let p = setFrom (s .args .p) in
     let noise = noiseDrawn p (drop (s .args .at) (s .args .random .now)) in
     summed-scaled (p .n) (p .q) (p .l) (s .args .work .now) _ noise (work-words p (s .args .work .now) (s .pre .1)) (length-noise p _)
-    (lent-filled (p .n) (s .args .work .now) (c .before .before .before .before .before .before .draw-noise .last .1 .1 .1 .0) noise (c .before .before .before .before .before .before .draw-noise .ensures) (length-noise p _))
+    (borrowed-filled (p .n) (s .args .work .now) (c .before .before .before .before .before .before .draw-noise .last .1 .1 .1 .0) noise (c .before .before .before .before .before .before .draw-noise .ensures) (length-noise p _))
     (c .before .before .add-scaled .ensures)
 
 pub add-noise-spec : {M : Type 1} → statement M

@@ -14,7 +14,7 @@ use Rattle.definitions.proofs.Octets.{length-encoded}
 use Rattle.ring.specs.Work.{part, written}
 use Rattle.values.proofs.Parts.{putMid-written}
 use Rattle.mask_products.proofs.Sums.{length-lent}
-use Rattle.encryption.proofs.Ciphertext.{lent-element}
+use Rattle.encryption.proofs.Ciphertext.{borrowed-element}
 use Rattle.encryption.proofs.encode_element.Statement.{statement}
 use Rattle.encryption.proofs.encode_element.Tie as tie
 
@@ -78,7 +78,7 @@ returns c =
     let s = c .before .before .before .before .before .before .before in
     let a = s .args in
     let given : c .before .before .encode .last .1 .1 .0 ≡ encoded (a .width) (tabulate (a .n) (part (a .work .now) (7 * a .n))) =
-    c .before .before .encode .ensures ∙ ap (encoded (a .width)) (lent-element (7 * a .n) (a .n) (a .work .now) (omega arith)) in
+    c .before .before .encode .ensures ∙ ap (encoded (a .width)) (borrowed-element (7 * a .n) (a .n) (a .work .now) (omega arith)) in
     let sized : length (c .before .before .encode .last .1 .1 .0) ≡ a .n * a .width =
     ap length given ∙ length-encoded (a .width) (tabulate (a .n) (part (a .work .now) (7 * a .n))) ∙ ap (λ (x : ℕ). x * a .width) (length-tabulate (a .n) (part (a .work .now) (7 * a .n))) in
     putMid-written (a .m * a .n * a .width) (a .n * a .width) (a .ciphertext .now) _ sized

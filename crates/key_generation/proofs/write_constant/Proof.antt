@@ -9,7 +9,7 @@ use borrow.Author.Needs.{needs}
 use Rattle.definitions.specs.Monomials.{value}
 use Rattle.ring.specs.Work.{part}
 use Rattle.values.specs.Folding.{flat}
-use Rattle.key_generation.proofs.Parts.{lent-length, tail-length, constant-room, constant-placed}
+use Rattle.key_generation.proofs.Parts.{borrowed-length, tail-length, constant-room, constant-placed}
 use Rattle.key_generation.proofs.write_constant.Statement.{statement}
 use Rattle.key_generation.proofs.write_constant.Tie as tie
 
@@ -69,7 +69,7 @@ encode-requires c κs = let s = c .before .before .before .before .before .befor
       s .pre .0 .0 .octets-most,
       tail-length at (s .args .public .now) (omega arith)
           ∙ octets
-          ∙ ap (λ (m : ℕ). m * s .args .qlen) (sym (lent-length (2 * s .args .n) (s .args .n) _ (omega (arith, inside (c .before .before .before .before .before .before .before .before .before), c .before .before .before .before .before .negate .kept .0)))),
+          ∙ ap (λ (m : ℕ). m * s .args .qlen) (sym (borrowed-length (2 * s .args .n) (s .args .n) _ (omega (arith, inside (c .before .before .before .before .before .before .before .before .before), c .before .before .before .before .before .negate .kept .0)))),
     )
 
 same-length : tie.Need-same-length
