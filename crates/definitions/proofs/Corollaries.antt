@@ -1,10 +1,10 @@
 -- Why the corollaries hold: a fresh ciphertext has count 1 and B is below q; packing loses no coefficient below ℓ; a made key's secret is a zero.
 -- Assumes nothing.
-use Prim.Native.Nat.{ℕ, _+_, _*_, _/_, _<_}
+use Prim.Native.Nat.{ℕ, _+_, _*_, _/_, _%_, _<_}
 use mathlib.Core.Path.{_≡_, refl, ap, _∙_}
 use mathlib.Core.Bool.{true}
 use mathlib.Core.List.{List}
-use native.Mathlib.Nat.{mod-eq-of-lt, div-add-mod, mul-le-mul-right, lt-of-le-of-lt, one-mul}
+use native.Mathlib.Nat.{mod-eq-of-lt, mod-lt, zero-mod, div-add-mod, mul-le-mul-right, lt-of-le-of-lt, one-mul}
 use native.Mathlib.Omega.{arith}
 use native.Mathlib.Decide.{decLt}
 use borrow.Author.Tests.{eq-eqb}
@@ -16,9 +16,9 @@ use Rattle.definitions.specs.Ring.{Element, modulo, InRing}
 use Rattle.definitions.specs.Octets.{unpacked, paddingClear}
 use Rattle.definitions.specs.Calls.{smallOf, messageOf, decryptAnswer}
 use Rattle.definitions.specs.Demand3.{ZeroPastMessage, DecryptsTo}
-use Rattle.definitions.specs.Corollaries.{AllOctets, Fresh, Headroom, Totals, OwnSecret}
+use Rattle.definitions.specs.Corollaries.{AllOctets, Fresh, Headroom, SumsRead, Totals, OwnSecret}
 use Rattle.definitions.proofs.Sums.{length-tabulate, getD-tabulate, tabulate-getD}
-use Rattle.definitions.proofs.Parameters.{Accepted, accepted-set, modulus-positive, bound-positive, smallBits-least, smallBits-power, headroom-fits, headroom-largest}
+use Rattle.definitions.proofs.Parameters.{Accepted, accepted-set, modulus-positive, bound-positive, smallBits-least, smallBits-power, range-least, headroom-fits, headroom-largest}
 use Rattle.definitions.proofs.Packing.{ZeroFrom, length-unpacked, packed-unpacked, unpacked-packed-zeroFrom}
 use Rattle.definitions.proofs.Small.{smallOf-below}
 use Rattle.definitions.proofs.Calls.{encrypt-told, keygen-told}
@@ -82,6 +82,14 @@ pub headroom-suffices : Headroom
 headroom-suffices p set s =
     let a : Accepted p = accepted-set p set in
     (λ l. lt-of-le-of-lt (mul-le-mul-right (bound p) l) (headroom-fits p (modulus-positive p a)), headroom-largest p s (bound-positive p (a .range)))
+
+pub sums-read : SumsRead
+unfolding modulo
+sums-read p set public ciphertext entry holds k l =
+    let a : Accepted p = accepted-set p set in
+    let pos : 0 < p .l = omega (arith, range-least p (a .range)) in
+    smallOf-messageOf p a (modulo (p .l) (entry .places)) (λ i s. mod-lt (entry .places i) pos)
+    (λ i past. ap (λ (x : ℕ). x % p .l) (holds .tail i past) ∙ zero-mod (p .l)) k l
 
 pub totals : Totals
 totals p set public ciphertext entry holds room small secret zero =

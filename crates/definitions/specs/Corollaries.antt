@@ -3,17 +3,18 @@
 --   AllOctets        each number of a list is an octet
 --   Fresh            what encryption accepts, decryption gives back, with every secret that is a zero of the key
 --   Headroom         the headroom is the number of fresh ciphertexts that may be added: just the counts up to it have s × B below q
---   Totals           where the totals of an entry are below ℓ, decryption gives the totals themselves
---   OwnSecret        a made key's own secret decrypts every list under that key
+--   SumsRead         the coefficients of the message that decryption gives are the entry's numbers modulo ℓ
+--   Totals           where the totals of an entry are below ℓ, and s × B below q, decryption gives the totals themselves
+--   OwnSecret        a made key's own secret decrypts every ciphertext of a list under that key that has s × B below q
 -- Assumes nothing.
-use Prim.Native.Nat.{ℕ, _*_, _≤_, _<_}
+use Prim.Native.Nat.{ℕ, _*_, _%_, _≤_, _<_}
 use mathlib.Core.Path.{_≡_}
 use mathlib.Core.Logic.{_↔_}
 use mathlib.Core.List.{List, []}
 use lib.ListN.{length, getD}
 use Rattle.definitions.specs.Refusals.{accepted}
 use Rattle.definitions.specs.Parameters.{Parameters, bound, headroom, messageLength, workLength}
-use Rattle.definitions.specs.Ring.{InRing}
+use Rattle.definitions.specs.Ring.{InRing, modulo}
 use Rattle.definitions.specs.Calls.{KeyPair, Encrypted, smallOf, keygenAnswer, encryptAnswer, decryptAnswer, messageOf}
 use Rattle.definitions.specs.Ledger.{Call, Entry, noEntry, givenBy, events, ledger, Legal}
 use Rattle.definitions.specs.Demand3.{AcceptedSet, ZeroOf, DecryptsTo, EntryHolds}
@@ -30,6 +31,11 @@ Fresh =
 
 abbrev pub Headroom : Type 0
 Headroom = (p : Parameters) → AcceptedSet p → (s : ℕ) → s ≤ headroom p ↔ s * bound p < p .q
+
+abbrev pub SumsRead : Type 0
+SumsRead =
+    (p : Parameters) → AcceptedSet p → (public ciphertext : List ℕ) (entry : Entry) → EntryHolds p public ciphertext entry →
+    (k : ℕ) → k < p .n → smallOf p (messageOf p (modulo (p .l) (entry .places))) k ≡ entry .places k % p .l
 
 -- the message whose coefficients are an entry's totals
 pub record TotalsRead (p : Parameters) (secret ciphertext : List ℕ) (entry : Entry) : Type 0 where

@@ -12,7 +12,7 @@
 --   Entry            a count s, and a whole number for each place (01: a power of t)
 --   ledger           the entries of a list of events, oldest first
 --   Legal            each accepted encryption was lent the list's key, each accepted addition two ciphertexts of the list; a refused call may
---                    have been lent anything. The list starts with nothing given: the state [] (Demand3.antt)
+--                    have been lent anything; the set is one for the whole list. The list starts with nothing given: the state [] (Demand3.antt)
 -- Assumes nothing.
 use Prim.Native.Nat.{ℕ, _+_, _<_}
 use mathlib.Core.Path.{_≡_}
