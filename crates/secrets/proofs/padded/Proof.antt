@@ -1,6 +1,7 @@
 -- `padded` judges one half after the other.
 -- Assumes nothing.
 use mathlib.Core.Path.{_≡_, sym, ap, _∙_}
+use native.Mathlib.Omega.{arith}
 use borrow.Author.Needs.{needs}
 use borrow.Author.Tests.{not-true, not-false}
 use Prim.Native.Nat.{ℕ, _*_}
@@ -22,7 +23,9 @@ returns : tie.Need-returns
 returns c = padded-not _ _ (c .before .before .before .before .pre) (sym (c .before .half-padded .ensures) ∙ not-true _ (c .if1 .taken))
 
 half-padded-requires-2 : tie.Need-half-padded-requires-2
-half-padded-requires-2 c κs = rw (c .before .before .small-length .ensures) (second-room (setFrom (c .before .before .before .before .args .p)) (c .before .before .before .before .args .secret .now) (c .before .before .before .before .pre))
+half-padded-requires-2 c κs =
+    let a = c .before .before .before .before .args in
+    omega (arith, c .before .before .small-length .ensures, second-room (setFrom (a .p)) (a .secret .now) (c .before .before .before .before .pre))
 
 returns-2 : tie.Need-returns-2
 returns-2 c =

@@ -30,8 +30,9 @@ cast-unpack-half c = search needs
 unpack-half-requires-2 : tie.Need-unpack-half-requires-2
 unfolding workLength
 unpack-half-requires-2 c κs =
-    let room : length (c .before .before .before .before .unpack-half .last .1 .1 .1 .0) ≡ 8 * c .before .before .before .before .before .before .before .before .before .args .p .n = c .before .before .before .before .unpack-half .kept .1 .1 .1 .0 ∙ c .before .before .before .before .before .before .before .before .before .pre .1 in
-    (rw (c .before .before .before .before .before .before .small-length .ensures) (second-room (setFrom (c .before .before .before .before .before .before .before .before .before .args .p)) (c .before .before .before .before .before .before .before .before .before .args .secret .now) (c .before .before .before .before .before .before .before .before .before .pre .0)), omega (arith, room))
+    let a = c .before .before .before .before .before .before .before .before .before .args in
+    let room : length (c .before .before .before .before .unpack-half .last .1 .1 .1 .0) ≡ 8 * a .p .n = c .before .before .before .before .unpack-half .kept .1 .1 .1 .0 ∙ c .before .before .before .before .before .before .before .before .before .pre .1 in
+    (omega (arith, c .before .before .before .before .before .before .small-length .ensures, second-room (setFrom (a .p)) (a .secret .now) (c .before .before .before .before .before .before .before .before .before .pre .0)), omega (arith, room))
 
 same-length : tie.Need-same-length
 same-length c = search needs
