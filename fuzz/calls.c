@@ -1,0 +1,612 @@
+/*
+ * calls.c: the sixteen calls of the C interface on arguments that libFuzzer chooses. By hand: see docs/FUZZING.md.
+ *
+ * The octets of an input choose the call, the six numbers, the length and the contents of each buffer; where the input
+ * ends, a sequence that it determines goes on. After the call the rules of giophantus.h are held to, and abort() ends the
+ * program where one fails:
+ *
+ *     the number is 0 to 10, and where the lowest refusal is one of 1 to 8, that one: worked out here a second time
+ *     inputs are unchanged; after a refusal the outputs are too
+ *     work words are untouched after 1 to 6 and zero after every other ending
+ *     no octet outside a buffer is read or written
+ *     what an accepted encryption under made keys gives decrypts to the message, and a sum to the total modulo l
+ *
+ * The archive is linked as it is, without a sanitizer's checks in it, so AddressSanitizer alone would not see it touch
+ * an octet outside. Hence each buffer lies right before or right after a page that cannot be touched, with canaries on
+ * its other side. With -DREPLAY there is a main that makes the calls of given files, on buffers of malloc with the exact
+ * size, for valgrind, which sees every access.
+ */
+
+#define _GNU_SOURCE
+#include <stdint.h>
+#include <stdio.h>
+#include <stdlib.h>
+#include <string.h>
+#include <sys/mman.h>
+
+#include "giophantus.h"
+
+#define LARGEST_N 4096u
+#define PRODUCT_N 128u /* sets of larger n are left out of the calls with products, which would take long */
+#define ARENA (512u * 1024u)
+#define PAGE 4096u
+#define CANARIES 64u
+#define CANARY 0xA5u
+#define BUFFERS 16u
+
+/* What a failed rule says before the program ends. */
+static const char *now = "";
+static void rule(int held, const char *what) {
+    if (!held) {
+        fprintf(stderr, "%s: %s\n", now, what);
+        abort();
+    }
+}
+
+/* ---- the input ---- */
+
+static const uint8_t *given;
+static size_t given_left;
+static uint64_t sequence;
+
+static uint8_t octet(void) {
+    if (given_left > 0) {
+        given_left--;
+        sequence = (sequence ^ *given) * 0x100000001b3u;
+        return *given++;
+    }
+    sequence ^= sequence << 13;
+    sequence ^= sequence >> 7;
+    sequence ^= sequence << 17;
+    return (uint8_t)(sequence >> 24);
+}
+
+static uint32_t word(void) {
+    uint32_t low = octet();
+    low |= (uint32_t)octet() << 8;
+    low |= (uint32_t)octet() << 16;
+    return low | (uint32_t)octet() << 24;
+}
+
+/* ---- sets ---- */
+
+struct set {
+    uint32_t l, q, n, dx, dr, mlen;
+};
+
+#define SET(s) (s)->l, (s)->q, (s)->n, (s)->dx, (s)->dr, (s)->mlen
+
+/* Accepted sets: each l, degree and length of q, q next to its bound, next to a power of two and at its largest. */
+static const struct set table[] = {
+    {2, 37, 2, 1, 1, 2},          {2, 251, 2, 1, 1, 1},           {2, 257, 3, 1, 1, 3},
+    {4, 1459, 2, 1, 1, 4},        {4, 65521, 2, 1, 1, 4},         {4, 65537, 2, 1, 1, 2},
+    {2, 65537, 9, 1, 1, 9},       {2, 16777213, 17, 1, 1, 8},     {2, 16777259, 16, 1, 2, 16},
+    {8, 2147483647, 3, 1, 1, 9},  {8, 1073741827, 5, 1, 1, 15},   {8, 2147483647, 7, 2, 2, 21},
+    {16, 2147483647, 4, 1, 1, 16}, {16, 52129279, 8, 1, 1, 16},   {16, 2147483647, 8, 1, 1, 32},
+    {16, 2147483647, 2, 2, 2, 8}, {16, 2147483647, 8, 1, 2, 0},   {4, 2147483647, 16, 2, 2, 32},
+    {2, 2147483647, 64, 2, 2, 64}, {2, 2147483647, 64, 1, 2, 64}, {4, 1073741827, 33, 2, 1, 64},
+    {8, 2147483647, 64, 1, 1, 192}, {16, 2147483647, 115, 1, 1, 460}, {2, 2147483647, 120, 2, 2, 120},
+    {4, 2147483647, 118, 1, 2, 236}, {8, 2147483647, 30, 2, 1, 0}, {4, 467424413, 1201, 1, 1, 2402},
+    {2, 2147483647, 4096, 1, 1, 4096},
+};
+#define TABLE (sizeof table / sizeof *table)
+
+static uint32_t places(uint32_t d) { return (d + 1) * (d + 2) / 2; }
+
+static uint32_t bits(uint32_t l) { return l == 2 ? 1 : l == 4 ? 2 : l == 8 ? 3 : 4; }
+
+static uint32_t bytes_of(uint32_t q) { return q < 1u << 8 ? 1 : q < 1u << 16 ? 2 : q < 1u << 24 ? 3 : 4; }
+
+/* The bound, for l at most 16, n at most 4096 and D at most 4: it takes up to 75 bits. */
+static unsigned __int128 bound_of(const struct set *s) {
+    unsigned __int128 total = 0, power = s->l - 1;
+    for (uint32_t k = 0; k <= s->dx + s->dr; k++) {
+        total += (k + 1) * power;
+        power *= (unsigned __int128)s->n * (s->l - 1);
+    }
+    return s->l - 1 + s->l * total;
+}
+
+/* The refusal of a set, 0 where it is accepted. */
+static uint32_t refusal_of(const struct set *s) {
+    if (s->l != 2 && s->l != 4 && s->l != 8 && s->l != 16)
+        return GIOPHANTUS_RANGE;
+    if (s->n < 2 || s->n > LARGEST_N)
+        return GIOPHANTUS_RING;
+    if (s->dx < 1 || s->dx > 2 || s->dr < 1 || s->dr > 2)
+        return GIOPHANTUS_DEGREE;
+    if (s->q > 2147483647u || s->q <= bound_of(s))
+        return GIOPHANTUS_MODULUS;
+    if (s->mlen > s->n * bits(s->l) || s->mlen % bits(s->l) != 0)
+        return GIOPHANTUS_MESSAGE_SIZE;
+    return 0;
+}
+
+static uint32_t chosen_from; /* where in the table the set was taken, TABLE where all six were made up */
+
+static struct set choose_set(void) {
+    uint8_t how = octet();
+    struct set s;
+    chosen_from = octet() % TABLE;
+    s = table[chosen_from];
+    if (how < 160) { /* as it is, with another length of the message at times */
+        if (how & 1)
+            s.mlen = octet() % (s.n + 1) * bits(s.l);
+    } else if (how < 240) { /* one of the six a little or wholly changed */
+        uint32_t *one[] = {&s.l, &s.q, &s.n, &s.dx, &s.dr, &s.mlen};
+        uint8_t which = octet();
+        uint32_t *it = one[which % 6];
+        switch (octet() % 4) {
+        case 0: *it += octet() % 9 - 4u; break;
+        case 1: *it = octet(); break;
+        case 2: *it = word(); break;
+        default: /* q at its bound */
+            if (s.n <= LARGEST_N)
+                s.q = (uint32_t)bound_of(&s) + octet() % 3 - 1;
+        }
+    } else {
+        s.l = how & 1 ? 2u << octet() % 4 : word();
+        s.q = word() >> octet() % 32;
+        s.n = how & 2 ? octet() % 70 : word() >> octet() % 32;
+        s.dx = how & 4 ? 1 + octet() % 2 : octet();
+        s.dr = how & 8 ? 1 + octet() % 2 : octet();
+        s.mlen = word() >> octet() % 32;
+        chosen_from = TABLE;
+    }
+    return s;
+}
+
+/* ---- buffers ---- */
+
+enum kind { INPUT, OUTPUT, WORK };
+
+struct buffer {
+    uint8_t *at, *old, *canaries;
+    size_t octets;
+    enum kind kind;
+};
+
+static struct buffer buffers[BUFFERS];
+static size_t made;
+static int wrong_length; /* one of them isn't of its exact length */
+
+#ifndef REPLAY
+static uint8_t *arenas[BUFFERS];
+
+static uint8_t *arena(size_t i) {
+    if (arenas[i] == NULL) {
+        uint8_t *map = mmap(NULL, ARENA + 2 * PAGE, PROT_NONE, MAP_PRIVATE | MAP_ANONYMOUS, -1, 0);
+        if (map == MAP_FAILED || mprotect(map + PAGE, ARENA, PROT_READ | PROT_WRITE) != 0) {
+            perror("mmap");
+            exit(1);
+        }
+        arenas[i] = map + PAGE;
+    }
+    return arenas[i];
+}
+#endif
+
+/* A buffer of this many octets, with contents of any kind. */
+static struct buffer *buffer(enum kind kind, size_t octets) {
+    struct buffer *b = &buffers[made];
+    rule(made < BUFFERS && octets + CANARIES <= ARENA, "the harness asks for too much");
+    b->octets = octets;
+    b->kind = kind;
+#ifdef REPLAY
+    b->at = malloc(octets); /* glibc gives a pointer for 0 octets too */
+    b->canaries = NULL;
+#else
+    if (octet() & 1) { /* its end at the page that cannot be touched */
+        b->at = arena(made) + ARENA - octets;
+        b->canaries = b->at - CANARIES;
+    } else {
+        b->at = arena(made);
+        b->canaries = b->at + octets;
+    }
+    memset(b->canaries, CANARY, CANARIES);
+#endif
+    made++;
+    b->old = NULL;
+    uint8_t how = octet();
+    if (how % 8 == 0)
+        memset(b->at, 0, octets);
+    else if (how % 8 == 1)
+        memset(b->at, 0xFF, octets);
+    else
+        for (size_t i = 0; i < octets; i++)
+            b->at[i] = octet();
+    return b;
+}
+
+/* A buffer whose exact length is this many elements, mostly of that length. */
+static struct buffer *sized(enum kind kind, size_t elements, size_t size) {
+    uint8_t how = octet();
+    size_t n = elements;
+    if (how >= 232) {
+        uint8_t by = octet();
+        n = by & 1 ? elements + 1 + by % 7 : elements - (elements < 1u + by % 7 ? elements : 1u + by % 7);
+    }
+    if (n != elements)
+        wrong_length = 1;
+    return buffer(kind, n * size);
+}
+
+#define WORDS(b) (void *)(b)->at, (b)->octets / 4
+#define OCTETS(b) (b)->at, (b)->octets
+
+/* Keeps what every buffer holds before a call. */
+static void keep(void) {
+    for (size_t i = 0; i < made; i++) {
+        free(buffers[i].old);
+        buffers[i].old = malloc(buffers[i].octets + 1);
+        if (buffers[i].old == NULL)
+            exit(1);
+        memcpy(buffers[i].old, buffers[i].at, buffers[i].octets);
+    }
+}
+
+static int unchanged(const struct buffer *b) { return memcmp(b->at, b->old, b->octets) == 0; }
+
+/* The rules that hold after every call. */
+static void settle(uint32_t number) {
+    rule(number <= 10, "the number is above 10");
+    for (size_t i = 0; i < made; i++) {
+        struct buffer *b = &buffers[i];
+        if (b->kind == INPUT)
+            rule(unchanged(b), "an input changed");
+        else if (b->kind == OUTPUT)
+            rule(number == 0 || unchanged(b), "an output changed on a refusal");
+        else if (number >= 1 && number <= 6)
+            rule(unchanged(b), "a work word changed on a refusal with 1 to 6");
+        else
+            for (size_t j = 0; j < b->octets; j++)
+                rule(b->at[j] == 0, "a work word isn't zero");
+        if (b->canaries != NULL)
+            for (size_t j = 0; j < CANARIES; j++)
+                rule(b->canaries[j] == CANARY, "an octet outside a buffer changed");
+    }
+}
+
+static void drop(void) {
+    for (size_t i = 0; i < made; i++) {
+        free(buffers[i].old);
+#ifdef REPLAY
+        free(buffers[i].at);
+#endif
+    }
+    made = 0;
+    wrong_length = 0;
+}
+
+/* ---- contents ---- */
+
+/* Makes coefficients of size octets fall below the limit, all or all but one. */
+static void below(struct buffer *b, uint32_t size, uint32_t limit) {
+    uint8_t how = octet();
+    size_t count = b->octets / size;
+    if (how < 32 || count == 0)
+        return; /* any contents */
+    size_t odd = how < 96 ? word() % count : count;
+    uint32_t odd_by = octet();
+    for (size_t i = 0; i < count; i++) {
+        uint32_t c = 0;
+        for (uint32_t j = 0; j < size; j++)
+            c |= (uint32_t)b->at[i * size + j] << 8 * j;
+        c = i == odd ? limit - 2 + odd_by % 4 : how & 1 ? c % limit : c < limit ? c : limit - 1;
+        for (uint32_t j = 0; j < size; j++)
+            b->at[i * size + j] = (uint8_t)(c >> 8 * j);
+    }
+}
+
+static int reaches(const struct buffer *b, uint32_t size, uint32_t limit) {
+    for (size_t i = 0; i + size <= b->octets; i += size) {
+        uint32_t c = 0;
+        for (uint32_t j = 0; j < size; j++)
+            c |= (uint32_t)b->at[i + j] << 8 * j;
+        if (c >= limit)
+            return 1;
+    }
+    return 0;
+}
+
+/* Clears the unused bits of a packed part, or all but one of them. */
+static void clear_unused(uint8_t *at, size_t used_bits) {
+    if (used_bits % 8 == 0)
+        return;
+    uint8_t how = octet(), *last = at + used_bits / 8;
+    if (how < 32)
+        return;
+    *last &= (uint8_t)((1u << used_bits % 8) - 1);
+    if (how < 64)
+        *last |= (uint8_t)(0x80u >> how % (8 - used_bits % 8));
+}
+
+static int unused(const uint8_t *at, size_t used_bits) {
+    return used_bits % 8 != 0 && at[used_bits / 8] >> used_bits % 8 != 0;
+}
+
+/* ---- the calls ---- */
+
+enum call {
+    CHECK, LIMITS, LENGTHS, KEYGEN, IS_ZERO, ENCRYPT, ADD, DECRYPT, ELEMENT_FROM, ELEMENT_TO, SMALL_FROM, SMALL_TO,
+    PUBLIC_FROM, PUBLIC_TO, CIPHER_FROM, CIPHER_TO, ROUND, CALLS
+};
+
+static const char *const names[] = {
+    "check", "limits", "lengths", "keygen", "is_zero", "encrypt", "add", "decrypt", "element_from_octets",
+    "element_to_octets", "small_from_octets", "small_to_octets", "public_key_from_octets", "public_key_to_octets",
+    "ciphertext_from_octets", "ciphertext_to_octets", "round trip"
+};
+
+/* What libFuzzer is told of the archive, which has no counters: each answer of each call, by set and by kind of set. */
+#ifndef REPLAY
+__attribute__((used, section("__libfuzzer_extra_counters")))
+#endif
+static uint8_t by_set[CALLS][11][TABLE + 1];
+#ifndef REPLAY
+__attribute__((used, section("__libfuzzer_extra_counters")))
+#endif
+static uint8_t by_kind[CALLS][11][4][4][2][2];
+
+static void tell(enum call call, uint32_t number, const struct set *s) {
+    by_set[call][number][chosen_from] = 1;
+    if (refusal_of(s) == 0)
+        by_kind[call][number][bits(s->l) - 1][bytes_of(s->q) - 1][s->dx - 1][s->dr - 1] = 1;
+}
+
+/* Random octets: enough of them mostly, with room for groups that are dropped. */
+static struct buffer *random_octets(size_t needed) {
+    uint8_t how = octet();
+    size_t n = how < 16 ? needed - needed % (1u + octet()) : how < 32 ? octet() : 4 * needed + 64;
+    return buffer(INPUT, n);
+}
+
+/* Keys, two messages, their ciphertexts, the sum, and back. */
+static void round_trip(const struct set *s, size_t sk, size_t pk, size_t msg, size_t ct) {
+    uint32_t b = bits(s->l), small = (s->n * b + 7) / 8, qlen = bytes_of(s->q), number;
+    struct buffer *random = buffer(INPUT, 4 * (2 * small + pk) + 64);
+    struct buffer *secret = buffer(OUTPUT, sk), *public = buffer(OUTPUT, pk);
+    struct buffer *work = buffer(WORK, 32u * s->n), *used = buffer(OUTPUT, 8), *zero = buffer(OUTPUT, 4);
+    keep();
+    number = giophantus_keygen(SET(s), OCTETS(random), OCTETS(secret), OCTETS(public), WORDS(work), (void *)used->at);
+    settle(number);
+    tell(ROUND, number, s);
+    if (number != 0) {
+        rule(number == GIOPHANTUS_RANDOM_EXHAUSTED, "keygen refuses with an unexpected number");
+        return;
+    }
+    secret->kind = public->kind = INPUT;
+    keep();
+    number = giophantus_is_zero(SET(s), OCTETS(secret), OCTETS(public), WORDS(work), (void *)zero->at);
+    settle(number);
+    uint32_t is_zero;
+    memcpy(&is_zero, zero->at, 4);
+    rule(number == 0 && is_zero == 1, "a made secret key isn't a zero of its public key");
+
+    struct buffer *message[2], *cipher[2], *more[2];
+    for (int i = 0; i < 2; i++) {
+        message[i] = buffer(INPUT, msg);
+        if (s->mlen % 8 != 0)
+            message[i]->at[s->mlen / 8] &= (uint8_t)((1u << s->mlen % 8) - 1);
+        more[i] = buffer(INPUT, 4 * (places(s->dr) * s->n * qlen + places(s->dx + s->dr) * small) + 64);
+        cipher[i] = buffer(OUTPUT, ct);
+        keep();
+        number = giophantus_encrypt(SET(s), OCTETS(public), OCTETS(message[i]), OCTETS(more[i]), OCTETS(cipher[i]),
+                                    WORDS(work), (void *)used->at);
+        settle(number);
+        if (number != 0) {
+            rule(number == GIOPHANTUS_RANDOM_EXHAUSTED, "encrypt refuses with an unexpected number");
+            return;
+        }
+        uint64_t count;
+        memcpy(&count, used->at, 8);
+        rule(count <= more[i]->octets, "more octets used than given");
+        cipher[i]->kind = INPUT;
+    }
+    struct buffer *sum = buffer(OUTPUT, ct), *back = buffer(OUTPUT, msg);
+    keep();
+    number = giophantus_decrypt(SET(s), OCTETS(secret), OCTETS(cipher[0]), OCTETS(back), WORDS(work));
+    settle(number);
+    rule(number == 0, "a fresh ciphertext isn't decrypted");
+    rule(memcmp(back->at, message[0]->at, msg) == 0, "a fresh ciphertext decrypts to another message");
+    keep();
+    number = giophantus_add(SET(s), OCTETS(cipher[0]), OCTETS(cipher[1]), OCTETS(sum));
+    /* add has no work words; those of the calls before are zero already */
+    settle(number);
+    rule(number == 0, "two ciphertexts aren't added");
+    if (2 * bound_of(s) >= s->q)
+        return; /* no headroom for two */
+    sum->kind = INPUT;
+    keep();
+    number = giophantus_decrypt(SET(s), OCTETS(secret), OCTETS(sum), OCTETS(back), WORDS(work));
+    settle(number);
+    rule(number == 0, "a sum isn't decrypted");
+    for (uint32_t i = 0; i < s->mlen / b; i++) {
+        uint32_t total = 0;
+        for (uint32_t j = 0; j < b; j++) {
+            uint32_t at = i * b + j, place = at / 8, bit = at % 8;
+            total += (uint32_t)(message[0]->at[place] >> bit & 1) << j;
+            total += (uint32_t)(message[1]->at[place] >> bit & 1) << j;
+            total -= (uint32_t)(back->at[place] >> bit & 1) << j;
+        }
+        rule(total % s->l == 0, "a sum decrypts to another total");
+    }
+}
+
+typedef uint32_t from_octets(uint32_t, uint32_t, uint32_t, uint32_t, uint32_t, uint32_t, const uint8_t *, size_t,
+                             uint32_t *, size_t);
+typedef uint32_t to_octets(uint32_t, uint32_t, uint32_t, uint32_t, uint32_t, uint32_t, const uint32_t *, size_t,
+                           uint8_t *, size_t);
+
+static void one_call(void) {
+    enum call call = octet() % CALLS;
+    struct set s = choose_set();
+    uint32_t refused = refusal_of(&s), number = 0, low = 0;
+    now = names[call];
+
+    /* The exact lengths; for a set that is refused, any. */
+    uint32_t b = 0, qlen = 0, small = octet();
+    size_t sk = octet(), pk = octet(), msg = octet(), ct = octet(), work_words = octet(), element = octet();
+    uint32_t n = octet(), nx = 1, nd = 1;
+    if (refused == 0) {
+        b = bits(s.l), qlen = bytes_of(s.q), n = s.n, nx = places(s.dx), nd = places(s.dx + s.dr);
+        small = (n * b + 7) / 8, element = (size_t)n * qlen;
+        sk = 2u * small, pk = nx * element, ct = nd * element, msg = (s.mlen + 7) / 8, work_words = 8u * n;
+    }
+    int products = call == KEYGEN || call == IS_ZERO || call == ENCRYPT || call == DECRYPT || call == ROUND;
+    if (products && refused == 0 && n > PRODUCT_N)
+        return;
+    if (call == ROUND) {
+        if (refused == 0)
+            round_trip(&s, sk, pk, msg, ct);
+        return;
+    }
+
+    struct buffer *x, *y, *z, *w, *u, *r;
+    switch (call) {
+    case CHECK:
+        number = giophantus_check(SET(&s));
+        break;
+    case LIMITS:
+        x = buffer(OUTPUT, 4), y = buffer(OUTPUT, 4);
+        keep();
+        number = giophantus_limits(SET(&s), (void *)x->at, (void *)y->at);
+        if (number == 0 && refused == 0) {
+            uint32_t bound, headroom;
+            memcpy(&bound, x->at, 4), memcpy(&headroom, y->at, 4);
+            rule(bound == bound_of(&s) && headroom == (s.q - 1) / bound, "another bound or headroom");
+        }
+        break;
+    case LENGTHS: {
+        for (int i = 0; i < 5; i++)
+            buffer(OUTPUT, 8);
+        keep();
+        number = giophantus_lengths(SET(&s), (void *)buffers[0].at, (void *)buffers[1].at, (void *)buffers[2].at,
+                                    (void *)buffers[3].at, (void *)buffers[4].at);
+        uint64_t want[] = {sk, pk, msg, ct, work_words};
+        for (int i = 0; i < 5 && number == 0 && refused == 0; i++)
+            rule(memcmp(buffers[i].at, &want[i], 8) == 0, "another length");
+        break;
+    }
+    case KEYGEN:
+        r = random_octets(refused == 0 ? sk + pk - element : 64);
+        x = sized(OUTPUT, sk, 1), y = sized(OUTPUT, pk, 1), w = sized(WORK, work_words, 4), u = buffer(OUTPUT, 8);
+        keep();
+        number = giophantus_keygen(SET(&s), OCTETS(r), OCTETS(x), OCTETS(y), WORDS(w), (void *)u->at);
+        break;
+    case IS_ZERO:
+        x = sized(INPUT, sk, 1), y = sized(INPUT, pk, 1), w = sized(WORK, work_words, 4), u = buffer(OUTPUT, 4);
+        if (refused == 0 && !wrong_length) {
+            clear_unused(x->at, n * b), clear_unused(x->at + small, n * b), below(y, qlen, s.q);
+            low = unused(x->at, n * b) || unused(x->at + small, n * b) ? 7 : reaches(y, qlen, s.q) ? 8 : 0;
+        }
+        keep();
+        number = giophantus_is_zero(SET(&s), OCTETS(x), OCTETS(y), WORDS(w), (void *)u->at);
+        break;
+    case ENCRYPT:
+        x = sized(INPUT, pk, 1), y = sized(INPUT, msg, 1);
+        r = random_octets(refused == 0 ? places(s.dr) * element + nd * small : 64);
+        z = sized(OUTPUT, ct, 1), w = sized(WORK, work_words, 4), u = buffer(OUTPUT, 8);
+        if (refused == 0 && !wrong_length) {
+            below(x, qlen, s.q), clear_unused(y->at, s.mlen);
+            low = unused(y->at, s.mlen) ? 7 : reaches(x, qlen, s.q) ? 8 : 0;
+        }
+        keep();
+        number = giophantus_encrypt(SET(&s), OCTETS(x), OCTETS(y), OCTETS(r), OCTETS(z), WORDS(w), (void *)u->at);
+        break;
+    case ADD:
+        x = sized(INPUT, ct, 1), y = octet() & 1 ? x : sized(INPUT, ct, 1), z = sized(OUTPUT, ct, 1);
+        if (refused == 0 && !wrong_length) {
+            below(x, qlen, s.q), below(y, qlen, s.q);
+            low = reaches(x, qlen, s.q) || reaches(y, qlen, s.q) ? 8 : 0;
+        }
+        keep();
+        number = giophantus_add(SET(&s), OCTETS(x), OCTETS(y), OCTETS(z));
+        break;
+    case DECRYPT:
+        x = sized(INPUT, sk, 1), y = sized(INPUT, ct, 1), z = sized(OUTPUT, msg, 1), w = sized(WORK, work_words, 4);
+        if (refused == 0 && !wrong_length) {
+            clear_unused(x->at, n * b), clear_unused(x->at + small, n * b), below(y, qlen, s.q);
+            low = unused(x->at, n * b) || unused(x->at + small, n * b) ? 7 : reaches(y, qlen, s.q) ? 8 : 0;
+        }
+        keep();
+        number = giophantus_decrypt(SET(&s), OCTETS(x), OCTETS(y), OCTETS(z), WORDS(w));
+        break;
+    default: { /* the conversions */
+        static from_octets *const from[] = {giophantus_element_from_octets, giophantus_small_from_octets,
+                                            giophantus_public_key_from_octets, giophantus_ciphertext_from_octets};
+        static to_octets *const to[] = {giophantus_element_to_octets, giophantus_small_to_octets,
+                                        giophantus_public_key_to_octets, giophantus_ciphertext_to_octets};
+        int which = (call - ELEMENT_FROM) / 2, is_small = which == 1;
+        size_t octets[] = {element, small, pk, ct}, words[] = {n, n, (size_t)nx * n, (size_t)nd * n};
+        if ((call - ELEMENT_FROM) % 2 == 0) {
+            x = sized(INPUT, octets[which], 1), y = sized(OUTPUT, words[which], 4);
+            if (refused == 0 && !wrong_length) {
+                if (is_small)
+                    clear_unused(x->at, n * b), low = unused(x->at, n * b) ? 7 : 0;
+                else
+                    below(x, qlen, s.q), low = reaches(x, qlen, s.q) ? 8 : 0;
+            }
+            keep();
+            number = from[which](SET(&s), OCTETS(x), WORDS(y));
+        } else {
+            x = sized(INPUT, words[which], 4), y = sized(OUTPUT, octets[which], 1);
+            if (refused == 0 && !wrong_length) {
+                below(x, 4, is_small ? s.l : s.q);
+                low = reaches(x, 4, is_small ? s.l : s.q) ? 8 : 0;
+            }
+            keep();
+            number = to[which](SET(&s), WORDS(x), OCTETS(y));
+        }
+        if (number == 0) { /* and back: the same again */
+            settle(number);
+            struct buffer *again = buffer(OUTPUT, x->octets);
+            y->kind = INPUT;
+            keep();
+            uint32_t second = (call - ELEMENT_FROM) % 2 == 0 ? to[which](SET(&s), WORDS(y), OCTETS(again))
+                                                             : from[which](SET(&s), OCTETS(y), WORDS(again));
+            settle(second);
+            rule(second == 0 && memcmp(again->at, x->at, x->octets) == 0, "there and back isn't the same");
+        }
+    }
+    }
+
+    settle(number);
+    uint32_t want = refused != 0 ? refused : wrong_length ? GIOPHANTUS_LENGTH : low;
+    if (want != 0)
+        rule(number == want, "another refusal");
+    else if (call == KEYGEN || call == ENCRYPT)
+        rule(number == 0 || number == GIOPHANTUS_RANDOM_EXHAUSTED, "an unexpected refusal");
+    else if (call == DECRYPT)
+        rule(number == 0 || number == GIOPHANTUS_TAIL, "an unexpected refusal");
+    else
+        rule(number == 0, "refused without a reason");
+    tell(call, number, &s);
+}
+
+int LLVMFuzzerTestOneInput(const uint8_t *data, size_t size) {
+    given = data;
+    given_left = size;
+    sequence = 0xcbf29ce484222325u;
+    one_call();
+    drop();
+    return 0;
+}
+
+#ifdef REPLAY
+int main(int count, char **names_of_files) {
+    for (int i = 1; i < count; i++) {
+        static uint8_t octets[65536];
+        FILE *file = fopen(names_of_files[i], "rb");
+        if (file == NULL) {
+            perror(names_of_files[i]);
+            return 2;
+        }
+        size_t size = fread(octets, 1, sizeof octets, file);
+        fclose(file);
+        LLVMFuzzerTestOneInput(octets, size);
+    }
+    printf("%d inputs replayed\n", count - 1);
+    return 0;
+}
+#endif
