@@ -7,7 +7,7 @@
 -- Assumes nothing.
 use Prim.Native.Nat.{ℕ, zero, suc, _+_, _*_, _/_, _%_, _^_, _≤_, _<_}
 use mathlib.Core.Path.{_≡_, refl, sym, ap, _∙_}
-use mathlib.Core.Bool.{Bool, true, false, _&&_, not}
+use mathlib.Core.Bool.{Bool, true, false, _&&_}
 use mathlib.Core.List.{List, [], _∷_, _++_, append-assoc, append-nil}
 use native.Mathlib.Nat.{add-zero, add-suc, mul-le-mul-right, suc-mul, pow-suc, pow-succ', div-one, div-div-eq-div-mul, le-step, lt-suc-self, le-of-eq}
 use native.Mathlib.Numerals.{add-one}
@@ -18,10 +18,10 @@ use lib.ListN.{length, getD, take, drop, set, length-append, length-drop, take-a
 use lib.Seq.{take-all, take-suc, drop-cons, getD-drop, length-take-le, set-at, take-at, getD-append-seam}
 use borrow.Author.Tests.{lt-ltb, le-ltb}
 use Rattle.definitions.specs.Sequences.{sum, every, tabulate, joined}
-use Rattle.definitions.specs.Refusals.{firstRefusal, refuse}
+use Rattle.definitions.specs.Refusals.{firstRefusal}
 use Rattle.definitions.specs.Octets.{numberOf, octetsOf, coefficientAt, decoded, encoded, coefficientsFit}
 use Rattle.definitions.proofs.Filling.{tabulate-snoc}
-use Rattle.definitions.proofs.Octets.{length-octetsOf, encoded-append, encoded-cons}
+use Rattle.definitions.proofs.Octets.{length-octetsOf, encoded-append}
 use Rattle.octets.specs.Reading.{readingOf, fitNumber}
 use Rattle.octets.specs.declared.Coefficient.the-variants.{Below, TooLarge}
 
