@@ -17,7 +17,7 @@ use Rattle.definitions.specs.Refusals.{Test, refuse, firstRefusal, Answer, answ
 use Rattle.definitions.specs.Parameters.{Parameters, smallBits, qlen, smallLength, elementsLength, setTests}
 use Rattle.definitions.specs.Octets.{encoded, coefficientsFit, unpacked, packed, paddingClear}
 use Rattle.definitions.specs.Calls.{lengthTests, elementsFit, decodedElements}
-use Rattle.definitions.specs.Conversions.{ConversionExit, conversionExit, fromOctetsAnswer, toOctetsAnswer, smallFromAnswer, smallToAnswer}
+use Rattle.definitions.specs.Conversions.{conversionExit, fromOctetsAnswer, toOctetsAnswer, smallFromAnswer, smallToAnswer}
 use Rattle.definitions.proofs.Refusals.{firstRefusal-append, firstRefusal-append-refused}
 use Rattle.definitions.proofs.Parameters.{setTests-numbered}
 

@@ -14,9 +14,9 @@ use native.Mathlib.Omega.{arith}
 use lib.Dec.{eqb}
 use lib.ListN.{length}
 use borrow.Author.Tests.{eq-eqb, eqb-true, not-false}
-use Rattle.definitions.specs.Refusals.{Test, refuse, firstRefusal, Answer, accepted, answer}
+use Rattle.definitions.specs.Refusals.{Test, refuse, firstRefusal, Answer, accepted}
 use Rattle.definitions.specs.Parameters.{Parameters, smallBits, qlen, smallLength, elementsLength, setTests}
-use Rattle.definitions.specs.Octets.{decoded, encoded, coefficientsFit, unpacked, packed, paddingClear}
+use Rattle.definitions.specs.Octets.{decoded, coefficientsFit, paddingClear}
 use Rattle.definitions.specs.Calls.{lengthTests, elementsFit, decodedElements}
 use Rattle.definitions.specs.Conversions.{fromOctetsAnswer, toOctetsAnswer, smallFromAnswer, smallToAnswer}
 use Rattle.definitions.proofs.Tests.{both-true}

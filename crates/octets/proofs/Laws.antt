@@ -3,7 +3,9 @@
 --   numberOf-snoc, numberOf-take   the number of octets with one more behind them; of a part of a list, as a sum over its places
 --   octetsOf-snoc, stored-..       the octets of a number with one more; a list with some of them stored from a place on
 --   place-..                       where the octets of a coefficient lie
---   coefficientsFit-..             the test of one coefficient more
+--   encoded-snoc, encode-..        the octets of one word more;  a turn and the end of a loop that stores them
+--   fitNumber-..                   the answer for one coefficient more
+--   reading-..                     what reading a coefficient tells, and that its number is the answer for that one
 -- Assumes nothing.
 use Prim.Native.Nat.{ℕ, zero, suc, _+_, _*_, _/_, _%_, _^_, _≤_, _<_}
 use mathlib.Core.Path.{_≡_, refl, sym, ap, _∙_}
@@ -18,11 +20,11 @@ use lib.ListN.{length, getD, take, drop, set, length-append, length-drop, take-a
 use lib.Seq.{take-all, take-suc, drop-cons, getD-drop, length-take-le, set-at, take-at, getD-append-seam}
 use borrow.Author.Tests.{lt-ltb, le-ltb}
 use Rattle.definitions.specs.Sequences.{sum, every, tabulate, joined}
-use Rattle.definitions.specs.Refusals.{firstRefusal, refuse}
+use Rattle.definitions.specs.Refusals.{refuse, firstRefusal}
 use Rattle.definitions.specs.Octets.{numberOf, octetsOf, coefficientAt, decoded, encoded, coefficientsFit}
 use Rattle.definitions.proofs.Filling.{tabulate-snoc}
-use Rattle.definitions.proofs.Octets.{length-octetsOf, encoded-append, encoded-cons}
-use Rattle.octets.specs.Reading.{readingOf, fitNumber}
+use Rattle.definitions.proofs.Octets.{length-octetsOf, encoded-append}
+use Rattle.octets.specs.Reading.{picked, readingOf, readingNumber, fitNumber}
 use Rattle.octets.specs.declared.Coefficient.the-variants.{Below, TooLarge}
 
 -- ---- reading
@@ -50,9 +52,9 @@ numberOf-take-sum zero at l h =
     omega (arith, numberOf-take-suc 0 at l h)
 numberOf-take-sum (suc k) at l h = omega (arith, numberOf-take-suc (suc k) at l h, numberOf-take-sum k at l (omega arith))
 
-pub numberOf-take : (k qlen at : ℕ) (l : List ℕ) → qlen ≡ suc k → at + qlen ≤ length l
-    → numberOf (take qlen (drop at l)) ≡ getD l at 0 + sum k (λ j. 256 ^ suc j * getD l (at + suc j) 0)
-numberOf-take k qlen at l e h = rw e (numberOf-take-sum k at l (omega arith))
+pub numberOf-take : (k len at : ℕ) (l : List ℕ) → len ≡ suc k → at + len ≤ length l
+    → numberOf (take len (drop at l)) ≡ getD l at 0 + sum k (λ j. 256 ^ suc j * getD l (at + suc j) 0)
+numberOf-take k len at l e h = rw e (numberOf-take-sum k at l (omega arith))
 
 -- ---- writing
 
@@ -220,3 +222,11 @@ reading-large q x e =
           omega arith
       | no g ↦ omega arith
     ]
+
+pub reading-number : (q x : ℕ) → readingNumber (readingOf q x) ≡ fitNumber q (x ∷ [])
+unfolding fitNumber firstRefusal coefficientsFit every
+reading-number q x = go (ltb x q)
+  where
+    go : (t : Bool) → readingNumber (picked t x) ≡ firstRefusal (refuse 8 (not (true && t)) ∷ [])
+    go true = refl
+    go false = refl

@@ -5,7 +5,7 @@
 --   gather-..        the number of the coefficients before a place, with one more
 -- Assumes nothing.
 use Prim.Native.Nat.{ℕ, suc, _+_, _*_, _%_, _^_, _≤_, _<_}
-use mathlib.Core.Path.{_≡_, ap, _∙_}
+use mathlib.Core.Path.{_≡_, _∙_}
 use mathlib.Core.Bool.{true}
 use mathlib.Core.List.{List}
 use native.Mathlib.Nat.{one-mul, suc-mul, mul-comm, mul-le-mul, lt-of-lt-of-le}

@@ -1,10 +1,10 @@
 -- Why it is enough to look at whole octets: an octet's bits from bit s on are zero just where the octet divided by 2^s is.
 --
 --   ClearTo          the octets before a place have no bit set from bit `used` on
---   clear-step       one octet more
+--   clearTo-step       one octet more
 --   paddingNumber-.. what the test of the unused bits answers
 -- Assumes nothing.
-use Prim.Native.Nat.{ℕ, suc, _+_, _-_, _*_, _/_, _%_, _^_, _≤_, _<_}
+use Prim.Native.Nat.{ℕ, _+_, _-_, _*_, _/_, _%_, _^_, _≤_, _<_}
 use mathlib.Core.Path.{_≡_, refl, sym, ap, _∙_}
 use mathlib.Core.Bool.{Bool, true, false}
 use mathlib.Core.List.{List}
@@ -35,8 +35,8 @@ module _ (used : ℕ) (octets : List ℕ) where
   abbrev pub ClearTo : ℕ → Type 0
   ClearTo i = (k : ℕ) → used / 8 ≤ k → k < i → getD octets k 0 / 2 ^ (used - 8 * k) ≡ 0
 
-  pub clear-step : (i : ℕ) → ClearTo i → getD octets i 0 / 2 ^ (used - 8 * i) ≡ 0 → ClearTo (i + 1)
-  clear-step i h e k from l =
+  pub clearTo-step : (i : ℕ) → ClearTo i → getD octets i 0 / 2 ^ (used - 8 * i) ≡ 0 → ClearTo (i + 1)
+  clearTo-step i h e k from l =
       elim (decLt k i) [
         | yes s ↦ h k from s
         | no g ↦ let here : k ≡ i = omega arith in rw here e

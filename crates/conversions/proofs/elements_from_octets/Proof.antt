@@ -1,9 +1,7 @@
 -- `conversions::elements_from_octets` is right because it makes the tests of the definition in their order, and decodes where all pass.
 -- Assumes nothing.
 use Prim.Native.Nat.{_*_}
-use mathlib.Core.Path.{_≡_, sym, ap, _∙_}
-use native.Mathlib.Omega.{arith}
-use lib.ListN.{length}
+use mathlib.Core.Path.{_≡_, sym, _∙_}
 use Rattle.definitions.specs.Parameters.{qlen}
 use Rattle.definitions.specs.Octets.{decoded}
 use Rattle.definitions.specs.Calls.{decodedElements}

@@ -1,7 +1,6 @@
 -- `conversions::elements_to_octets` is right because it makes the tests of the definition in their order, and encodes where all pass.
 -- Assumes nothing.
-use mathlib.Core.Path.{_≡_, sym, ap, _∙_}
-use lib.ListN.{length}
+use mathlib.Core.Path.{_≡_, sym, _∙_}
 use Rattle.definitions.specs.Parameters.{qlen}
 use Rattle.definitions.specs.Octets.{encoded}
 use Rattle.octets.specs.Reading.{fitNumber}

@@ -1,9 +1,7 @@
 -- `conversions::small_from_octets` is right because it makes the tests of the definition in their order, and unpacks where all pass.
 -- Assumes nothing.
-use Prim.Native.Nat.{_*_, _^_, _<_}
 use mathlib.Core.Path.{_≡_, sym, _∙_}
-use lib.ListN.{length}
-use Rattle.definitions.specs.Refusals.{firstRefusal, refuse}
+use Rattle.definitions.specs.Refusals.{firstRefusal}
 use Rattle.definitions.specs.Parameters.{setTests, smallBits}
 use Rattle.definitions.specs.Octets.{unpacked}
 use Rattle.packing.specs.Fields.{paddingNumber}

@@ -1,7 +1,6 @@
 -- `conversions::small_to_octets` is right because it makes the tests of the definition in their order, and packs where all pass.
 -- Assumes nothing.
 use mathlib.Core.Path.{_≡_, sym, _∙_}
-use mathlib.Core.Bool.{true}
 use Rattle.definitions.specs.Refusals.{firstRefusal}
 use Rattle.definitions.specs.Parameters.{setTests, smallBits, smallLength}
 use Rattle.definitions.specs.Octets.{packed}

@@ -1,6 +1,6 @@
 -- `octets::number` is right because it adds the octets with their weights 1, 256, 256², 256³, and the number of octets is that sum.
 -- Assumes nothing.
-use mathlib.Core.Path.{_≡_, refl}
+use mathlib.Core.Path.{_≡_}
 use native.Mathlib.Omega.{arith}
 use Rattle.definitions.specs.Sequences.{sum}
 use Rattle.definitions.specs.Octets.{numberOf}

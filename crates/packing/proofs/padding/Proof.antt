@@ -5,7 +5,7 @@ use Prim.Native.Nat.{_-_, _*_, _/_, _≤_}
 use mathlib.Core.Path.{_≡_, sym}
 use native.Mathlib.Omega.{arith}
 use lib.ListN.{length}
-use Rattle.packing.proofs.Unused.{ClearTo, clear-step, paddingNumber-clear, paddingNumber-set}
+use Rattle.packing.proofs.Unused.{ClearTo, clearTo-step, paddingNumber-clear, paddingNumber-set}
 use Rattle.packing.proofs.padding.Statement.{statement}
 use Rattle.packing.proofs.padding.Tie as tie
 
@@ -44,7 +44,7 @@ loop-again : tie.Need-loop-again Inv-loop μ-loop
 loop-again c =
     let a = c .before .before .before .before .args in
     let l = c .before .before .before .loop in
-    (omega arith, omega arith, clear-step (a .used) (a .octets .now) (l .i) (l .inv .2) (rw (← l .inv .1) (c .if1 .left)))
+    (omega arith, omega arith, clearTo-step (a .used) (a .octets .now) (l .i) (l .inv .2) (rw (← l .inv .1) (c .if1 .left)))
 
 returns-2 : tie.Need-returns-2 Inv-loop μ-loop
 returns-2 c =

@@ -4,7 +4,7 @@ use Prim.Native.Nat.{_*_, _≤_}
 use mathlib.Core.Path.{_∙_}
 use native.Mathlib.Nat.{lt-of-le-of-lt}
 use native.Mathlib.Omega.{arith}
-use lib.ListN.{length, take, drop}
+use lib.ListN.{length}
 use Rattle.definitions.specs.Octets.{unpacked}
 use Rattle.packing.proofs.Fields.{numberOf-value, groups-places, groups-numbers, part-end, parts-whole}
 use borrow.Author.Needs.{needs}
