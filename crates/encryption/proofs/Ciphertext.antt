@@ -10,13 +10,13 @@ use native.Mathlib.Omega.{arith}
 use mathlib.Core.Path.{_≡_, refl, sym, _∙_, ap, ap₂}
 use mathlib.Core.List.{List, _++_, append-assoc}
 use lib.Arith.{digits-lt, digits-div, digits-mod}
-use lib.ListN.{length, getD, take, drop, length-append, length-take}
+use lib.ListN.{length, getD, take, drop, length-append}
 use lib.Seq.{take-at, take-all, getD-take, getD-drop, length-take-le, drop-drop}
 use Rattle.definitions.specs.Sequences.{sum, tabulate}
 use Rattle.definitions.specs.Parameters.{Parameters, degree, qlen, monomialCount, elementsLength, ciphertextLength, smallLength}
 use Rattle.definitions.specs.Ring.{Element, add, modulo, scale}
 use Rattle.definitions.specs.Monomials.{Polynomial, polynomialOf, coefficientsOf, constantTerm, sumOf, productOf, monomialAt, sameMonomial}
-use Rattle.definitions.specs.Octets.{encoded, decoded}
+use Rattle.definitions.specs.Octets.{encoded}
 use Rattle.definitions.specs.Draws.{noiseDrawn}
 use Rattle.definitions.specs.Calls.{smallOf, polynomialFrom, decodedElements, octetsFrom, noiseOf, encryptedWith, maskLength}
 use Rattle.definitions.proofs.Sums.{sum-cong, length-tabulate, tabulate-cong, tabulate-getD}
@@ -26,7 +26,7 @@ use Rattle.definitions.proofs.Octets.{length-encoded, encoded-append, getD-deco
 use Rattle.ring.specs.Work.{part, written}
 use Rattle.values.specs.Folding.{flat}
 use Rattle.mask_products.specs.Products.{maskIn, Summed}
-use Rattle.mask_products.proofs.Sums.{count-six, length-lent, summed-then}
+use Rattle.mask_products.proofs.Sums.{count-six, length-borrowed, summed-then}
 use Rattle.encryption.specs.Elements.{encryptedSum}
 
 abbrev pub SameUpTo : ℕ → ℕ → Polynomial → Polynomial → Type 0
@@ -153,7 +153,7 @@ pub borrowed-element : (at n : ℕ) (l : List ℕ) → at + n ≤ length l → t
 borrowed-element at n l h =
     let count : at + n - at ≡ n = omega arith in
     sym (tabulate-getD (take (at + n - at) (drop at l)) 0)
-    ∙ ap (λ (c : ℕ). tabulate c (λ k. getD (take (at + n - at) (drop at l)) k 0)) (length-lent at n l h)
+    ∙ ap (λ (c : ℕ). tabulate c (λ k. getD (take (at + n - at) (drop at l)) k 0)) (length-borrowed at n l h)
     ∙ tabulate-cong n (λ k b. getD-take (at + n - at) (drop at l) k 0 (omega arith) ∙ getD-drop at l k 0)
 
 -- the ciphertext of the definitions, from the mask in the work words

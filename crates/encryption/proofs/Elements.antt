@@ -5,10 +5,9 @@
 --   ready-inputs     the key and the mask are a product's inputs;  ready-kept: and stay so
 -- Assumes nothing.
 use Prim.Native.Nat.{ℕ, suc, _+_, _-_, _*_, _%_, _≤_, _<_}
-use native.Mathlib.Nat.{le-of-eq, le-refl, mul-le-mul, mul-le-mul-right, lt-of-le-of-lt, le-trans, add-zero, mul-one, one-mul}
+use native.Mathlib.Nat.{le-of-eq, le-refl, mul-le-mul, mul-le-mul-right, add-zero, one-mul}
 use native.Mathlib.Omega.{arith}
-use mathlib.Core.Path.{_≡_, refl, sym, _∙_, ap, ap₂, subst}
-use mathlib.Core.Bool.{true}
+use mathlib.Core.Path.{_≡_, sym, _∙_, ap, ap₂}
 use mathlib.Core.Logic.{inr}
 use mathlib.Core.List.{List}
 use borrow.Author.Tests.{eq-eqb, ne-eqb}
@@ -17,25 +16,24 @@ use lib.ListN.{length, getD, take}
 use borrow.Rule.Slice.PartMut.{putMid}
 use Rattle.definitions.specs.Sequences.{tabulate}
 use Rattle.definitions.specs.Parameters.{Parameters, degree, bound, smallBits, smallLength, qlen, monomialCount, publicLength, elementsLength, workLength}
-use Rattle.definitions.specs.Ring.{Element, InRing, elementOf, scale}
+use Rattle.definitions.specs.Ring.{Element, InRing, scale}
 use Rattle.definitions.specs.Monomials.{constantTerm}
 use Rattle.definitions.specs.Octets.{unpacked}
 use Rattle.definitions.specs.Draws.{noiseDrawn}
 use Rattle.definitions.specs.Calls.{smallOf, elementsFit, decodedElements}
-use Rattle.definitions.specs.Demand3.{AcceptedSet, InSmallRing}
 use Rattle.definitions.proofs.Parameters.{Accepted, accepted-set, modulus-positive, modulus-word, qlen-least, qlen-most, range-least, range-most}
 use Rattle.definitions.proofs.Packing.{length-unpacked}
 use Rattle.definitions.proofs.Small.{unpacked-small}
-use Rattle.parameters.proofs.Bounds.{Within, smallBits-within, monomialCount-le}
+use Rattle.parameters.proofs.Bounds.{smallBits-within, monomialCount-le}
 use Rattle.parameters.proofs.NoiseBound.{partial, power, partial-suc, partial-le, bound-partial, turn-start}
 use Rattle.definitions.proofs.Parameters.{key-degree-most, mask-degree-most}
 use Rattle.definitions.proofs.Octets.{coefficientsFit-at}
 use Rattle.ring.specs.Work.{part, written, Apart}
 use Rattle.ring.proofs.Work.{part-written, getD-written, getD-written-before, getD-written-after, length-written, length-written-tabulate}
-use Rattle.values.specs.Folding.{Sizes, flat}
+use Rattle.values.specs.Folding.{flat}
 use Rattle.values.proofs.Parts.{putMid-written}
-use Rattle.mask_products.specs.Products.{maskIn, Inputs, Summed}
-use Rattle.mask_products.proofs.Sums.{count-six, mask-kept, summed-none, summed-same}
+use Rattle.mask_products.specs.Products.{Inputs, Summed}
+use Rattle.mask_products.proofs.Sums.{count-six, summed-none, summed-same}
 use Rattle.encryption.specs.Elements.{Ready}
 
 module _ (p : Parameters) (a : Accepted p) where

@@ -5,27 +5,24 @@
 --   encrypt-accepted                 no test applies
 --   encryptExit-work                 once the lengths are exact, the words that stood in the work words are not told any more
 -- Assumes nothing.
-use Prim.Native.Nat.{ℕ, zero, suc, _+_, _*_, _/_, _≤_, _<_}
-use native.Mathlib.Nat.{mul-le-mul-left, le-trans, div-mul-le-self}
-use native.Mathlib.Omega.{arith}
-use mathlib.Core.Path.{_≡_, refl, sym, _∙_, ap}
-use mathlib.Core.Bool.{Bool, true, false, cond, _&&_, _||_, not, and-false}
+use Prim.Native.Nat.{ℕ, zero, suc, _≤_, _<_}
+use mathlib.Core.Path.{_≡_, refl, _∙_, ap}
+use mathlib.Core.Bool.{Bool, true, false, _&&_, _||_, not, and-false}
 use mathlib.Core.List.{List, [], _∷_}
 use borrow.Author.Tests.{not-false, eq-eqb, ne-eqb, lt-ltb, le-ltb}
 use lib.Dec.{eqb, ltb, lit<}
-use lib.ListN.{length, take, drop, replicate}
-use Rattle.definitions.specs.Refusals.{Test, refuse, Answer, untouched, refused, accepted, firstRefusal, answer, answerOf, number, output, workAtExit}
-use Rattle.definitions.specs.Parameters.{Parameters, degree, setTests, qlen, monomialCount, smallLength, publicLength, ciphertextLength, messageLength, workLength}
+use lib.ListN.{length, drop, replicate}
+use Rattle.definitions.specs.Refusals.{Test, refuse, Answer, untouched, firstRefusal, answer, answerOf, number}
+use Rattle.definitions.specs.Parameters.{Parameters, degree, setTests, monomialCount, publicLength, ciphertextLength, messageLength, workLength}
 use Rattle.definitions.specs.Monomials.{polynomialOf}
 use Rattle.definitions.specs.Octets.{paddingClear}
-use Rattle.definitions.specs.Draws.{draws, candidates}
 use Rattle.definitions.specs.Calls.{lengthTests, elementsFit, smallOf, polynomialFrom, octetsFrom, maskDraws, noiseOf, encryptedWith, maskLength, encryptUsed, Encrypted, encryptAnswer, EncryptExit, encryptLeaves, encryptExit}
 use Rattle.definitions.specs.Demand3.{AcceptedSet}
 use Rattle.definitions.proofs.Refusals.{firstRefusal-applies, firstRefusal-passes, firstRefusal-passed, firstRefusal-last}
 use Rattle.definitions.proofs.Calls.{lengthTests-decide}
 use Rattle.definitions.proofs.Exits.{exit-set, exit-length, exit-refused, exit-accepted}
 use Rattle.packing.specs.Fields.{paddingNumber}
-use Rattle.encryption.specs.Elements.{Exact, Judged, MaskDrawn}
+use Rattle.encryption.specs.Elements.{Exact, Judged}
 
 module _ (p : Parameters) (public message random ciphertext : List ℕ) (used : ℕ) (work : List ℕ) where
   abbrev leaves : Answer Encrypted → EncryptExit

@@ -5,7 +5,7 @@
 // were and the work words zero. The mask r is drawn first, into the first parts of the work words; the noise e is drawn element by
 // element from the octets after it, so the ciphertext is written only where the octets are enough. The contract cites encryptExit.
 ghost use mathlib.Core.Path.{_≡_};
-ghost use Prim.Native.Nat.{ℕ, _+_, _*_, _≤_, _<_};
+ghost use Prim.Native.Nat.{_+_, _*_, _≤_, _<_};
 ghost use lib.ListN.{length, take, drop, replicate};
 ghost use Rattle.definitions.specs.Sequences.{tabulate};
 ghost use Rattle.definitions.specs.Parameters.{degree, monomialCount, smallLength, ciphertextLength, workLength, qlen};

@@ -5,7 +5,7 @@
 --   inputs-kept      what was asked of the work words at entry still holds
 -- Assumes nothing.
 use Prim.Native.Nat.{ℕ, zero, suc, _+_, _-_, _*_, _%_, _≤_, _<_}
-use native.Mathlib.Nat.{mod-add-mod, mod-eq-of-lt, mod-lt, mul-le-mul-right, mul-one, mul-zero, add-zero, add-assoc, add-comm, zero-mod}
+use native.Mathlib.Nat.{mod-add-mod, mod-eq-of-lt, mod-lt, mul-le-mul-right, mul-one, mul-zero, add-zero, add-comm, zero-mod}
 use native.Mathlib.Numerals.{add-one}
 use native.Mathlib.Omega.{arith}
 use mathlib.Core.Path.{_≡_, refl, sym, _∙_, ap, ap₂, subst}
@@ -24,7 +24,7 @@ use Rattle.definitions.proofs.Ring.{conv-cong}
 use Rattle.definitions.proofs.Monomials.{monomials-degree, sameMonomial-other}
 use Rattle.ring.specs.Work.{part, written}
 use Rattle.ring.proofs.Work.{part-written, getD-written-before, getD-written, getD-written-after, length-written, length-written-tabulate}
-use Rattle.values.specs.Folding.{Sizes, flat}
+use Rattle.values.specs.Folding.{flat}
 use Rattle.mask_products.specs.Products.{maskIn, pairTerm, Inputs, Summed}
 
 -- a list of at most degree 2 has at most six monomials
@@ -122,8 +122,8 @@ summed-written n q at old mid new f room h loaded added =
     }
 
 -- the words of a lent part
-pub length-lent : (at n : ℕ) (l : List ℕ) → at + n ≤ length l → length (take (at + n - at) (drop at l)) ≡ n
-length-lent at n l h = simp (length-take, length-drop) (omega arith)
+pub length-borrowed : (at n : ℕ) (l : List ℕ) → at + n ≤ length l → length (take (at + n - at) (drop at l)) ≡ n
+length-borrowed at n l h = simp (length-take, length-drop) (omega arith)
 
 -- what clearing leaves
 pub summed-zeros : (n q : ℕ) (old new : List ℕ) → length old ≡ 8 * n → new ≡ written (7 * n) (replicate n 0) old → Summed n q (λ k. 0) old new

@@ -4,7 +4,7 @@
 // while it is multiplied, and the sum in part 7. Each pair of monomials whose product is the m-th is multiplied and added. Nothing is
 // refused: the caller has judged the octets and drawn the mask. The contracts cite the definitions' productOf.
 ghost use mathlib.Core.Path.{_≡_};
-ghost use Prim.Native.Nat.{ℕ, _+_, _*_, _≤_, _<_};
+ghost use Prim.Native.Nat.{_+_, _*_, _≤_, _<_};
 ghost use lib.ListN.{length};
 ghost use Rattle.definitions.specs.Sequences.{sum};
 ghost use Rattle.definitions.specs.Parameters.{monomialCount};

@@ -1,20 +1,16 @@
 -- `add_message` adds the message at the constant's place, the last, and leaves every other element as it is.
 -- Assumes nothing.
-use Prim.Native.Nat.{ℕ, _+_, _-_, _*_, _≤_, _<_}
+use Prim.Native.Nat.{_*_}
 use native.Mathlib.Omega.{arith}
-use mathlib.Core.Path.{_≡_, sym, _∙_, ap}
-use mathlib.Core.List.{List}
+use mathlib.Core.Path.{_≡_, sym, _∙_}
 use borrow.Author.Needs.{needs}
-use lib.ListN.{length}
-use borrow.Rule.Slice.PartMut.{putMid}
 use Rattle.definitions.specs.Parameters.{smallBits}
 use Rattle.definitions.specs.Octets.{unpacked}
 use Rattle.definitions.proofs.Parameters.{accepted-set}
 use Rattle.definitions.proofs.Packing.{length-unpacked}
 use Rattle.parameters.specs.Answers.{setFrom}
 use Rattle.parameters.proofs.Bounds.{smallBits-within}
-use Rattle.ring.specs.Work.{written}
-use Rattle.mask_products.proofs.Sums.{length-lent}
+use Rattle.mask_products.proofs.Sums.{length-borrowed}
 use Rattle.encryption.proofs.Elements.{work-words, borrowed-filled, degree-most, count-most, modulus-half, message-scaled, filled-requires, summed-scaled, summed-message, summed-no-message}
 use Rattle.encryption.proofs.add_message.Statement.{statement}
 use Rattle.encryption.proofs.add_message.Tie as tie
@@ -76,7 +72,7 @@ unpacked-told : (c : tie.After-unpack) → c .unpack .last .1 .1 .0 ≡ unpacked
 unpacked-told c =
     let s = c .before .before .before .before .before .before .before .before .before in
     let room = work-words (setFrom (s .args .p)) (s .args .work .now) (s .pre .1) in
-    rw (c .before .before .bits .ensures, length-lent (6 * s .args .p .n) (s .args .p .n) (s .args .work .now) (omega arith)) at (c .unpack .ensures)
+    rw (c .before .before .bits .ensures, length-borrowed (6 * s .args .p .n) (s .args .p .n) (s .args .work .now) (omega arith)) at (c .unpack .ensures)
 
 add-scaled-requires : tie.Need-add-scaled-requires
 add-scaled-requires c κs =

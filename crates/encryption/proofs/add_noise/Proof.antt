@@ -1,16 +1,11 @@
 -- `add_noise` fills part 6 with the noise element, whose multiples by ℓ are below q, and adds them.
 -- Assumes nothing.
-use Prim.Native.Nat.{ℕ, _+_, _-_, _*_, _≤_, _<_}
 use native.Mathlib.Omega.{arith}
-use mathlib.Core.Path.{_≡_}
-use mathlib.Core.List.{List}
 use borrow.Author.Needs.{needs}
-use lib.ListN.{length, drop}
-use borrow.Rule.Slice.PartMut.{putMid}
+use lib.ListN.{drop}
 use Rattle.definitions.specs.Draws.{noiseDrawn}
 use Rattle.definitions.proofs.Parameters.{accepted-set}
 use Rattle.parameters.specs.Answers.{setFrom}
-use Rattle.ring.specs.Work.{written}
 use Rattle.encryption.proofs.Elements.{work-words, length-noise, borrowed-filled, modulus-half, noise-scaled, filled-requires, summed-scaled}
 use Rattle.encryption.proofs.add_noise.Statement.{statement}
 use Rattle.encryption.proofs.add_noise.Tie as tie

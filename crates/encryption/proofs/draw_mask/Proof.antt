@@ -1,11 +1,9 @@
 -- `draw_mask` draws into the words that the mask's elements fill.
 -- Assumes nothing.
-use Prim.Native.Nat.{ℕ, _+_, _-_, _*_, _≤_, _<_, zero-le}
-use native.Mathlib.Nat.{mul-le-mul, mul-le-mul-right}
+use Prim.Native.Nat.{_*_, _≤_, zero-le}
+use native.Mathlib.Nat.{mul-le-mul-right}
 use native.Mathlib.Omega.{arith}
-use mathlib.Core.Path.{_≡_}
 use borrow.Author.Needs.{needs}
-use lib.ListN.{length}
 use Rattle.definitions.proofs.Parameters.{accepted-set, modulus-positive}
 use Rattle.parameters.specs.Answers.{setFrom}
 use Rattle.definitions.proofs.Parameters.{mask-degree-most}

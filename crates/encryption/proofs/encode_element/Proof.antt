@@ -1,6 +1,6 @@
 -- `encode_element` encodes the words of part 7 over the octets of the m-th element.
 -- Assumes nothing.
-use Prim.Native.Nat.{ℕ, _+_, _-_, _*_, _≤_, _<_}
+use Prim.Native.Nat.{ℕ, _*_, _≤_}
 use native.Mathlib.Nat.{mul-le-mul}
 use native.Mathlib.Omega.{arith}
 use mathlib.Core.Path.{_≡_, sym, _∙_, ap}
@@ -13,7 +13,7 @@ use Rattle.definitions.proofs.Sums.{length-tabulate}
 use Rattle.definitions.proofs.Octets.{length-encoded}
 use Rattle.ring.specs.Work.{part, written}
 use Rattle.values.proofs.Parts.{putMid-written}
-use Rattle.mask_products.proofs.Sums.{length-lent}
+use Rattle.mask_products.proofs.Sums.{length-borrowed}
 use Rattle.encryption.proofs.Ciphertext.{borrowed-element}
 use Rattle.encryption.proofs.encode_element.Statement.{statement}
 use Rattle.encryption.proofs.encode_element.Tie as tie
@@ -66,8 +66,8 @@ encode-requires c κs =
     let a = s .args in (
       omega arith,
       omega arith,
-      length-lent (a .m * a .n * a .width) (a .n * a .width) (a .ciphertext .now) (s .pre .5)
-          ∙ ap (λ (x : ℕ). x * a .width) (sym (length-lent (7 * a .n) (a .n) (a .work .now) (omega arith))),
+      length-borrowed (a .m * a .n * a .width) (a .n * a .width) (a .ciphertext .now) (s .pre .5)
+          ∙ ap (λ (x : ℕ). x * a .width) (sym (length-borrowed (7 * a .n) (a .n) (a .work .now) (omega arith))),
     )
 
 same-length : tie.Need-same-length

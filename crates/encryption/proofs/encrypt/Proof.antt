@@ -1,13 +1,11 @@
 -- `encrypt` is right because its tests come in the table's order, and nothing is touched before the lengths are exact.
 -- Assumes nothing.
-use Prim.Native.Nat.{_≤_}
-use mathlib.Core.Path.{_≡_, sym, _∙_}
+use mathlib.Core.Path.{sym, _∙_}
 use borrow.Author.Needs.{needs}
 use Rattle.definitions.specs.Demand3.{AcceptedSet}
 use Rattle.definitions.proofs.Parameters.{accepted-set}
 use Rattle.parameters.specs.Answers.{setFrom}
 use Rattle.definitions.proofs.Parameters.{key-degree-most, mask-degree-most}
-use Rattle.encryption.specs.Elements.{Exact}
 use Rattle.encryption.proofs.Returns.{encrypt-set, encrypt-public-length, encrypt-message-length, encrypt-ciphertext-length, encrypt-work-length}
 use Rattle.encryption.proofs.encrypt.Statement.{statement}
 use Rattle.encryption.proofs.encrypt.Tie as tie

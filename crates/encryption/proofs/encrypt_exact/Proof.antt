@@ -1,17 +1,13 @@
 -- `encrypt_exact` judges the message before the key, and clears the work words where it refuses.
 -- Assumes nothing.
-use Prim.Native.Nat.{ℕ, _≤_}
-use native.Mathlib.Omega.{arith}
-use mathlib.Core.Path.{_≡_, sym, _∙_, ap}
+use mathlib.Core.Path.{_≡_, sym, _∙_}
 use mathlib.Core.Bool.{true}
 use borrow.Author.Needs.{needs}
-use lib.ListN.{length, replicate}
 use Rattle.definitions.specs.Parameters.{publicLength}
 use Rattle.definitions.specs.Octets.{paddingClear}
 use Rattle.definitions.proofs.Parameters.{accepted-set, modulus-positive, modulus-word, qlen-least, qlen-most}
 use Rattle.parameters.specs.Answers.{setFrom}
 use Rattle.octets.proofs.Judged.{judged-fits, judged-refused}
-use Rattle.encryption.specs.Elements.{Judged}
 use Rattle.encryption.proofs.Returns.{encrypt-padding, encrypt-coefficient, padding-clear, padding-refused}
 use Rattle.encryption.proofs.encrypt_exact.Statement.{statement}
 use Rattle.encryption.proofs.encrypt_exact.Tie as tie

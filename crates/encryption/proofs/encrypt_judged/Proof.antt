@@ -1,13 +1,13 @@
 -- `encrypt_judged` draws the mask first; its octets lie inside the random octets, so where the noise begins can be told.
 -- Assumes nothing.
-use Prim.Native.Nat.{ℕ, _+_, _-_, _*_, _≤_, _<_}
+use Prim.Native.Nat.{ℕ, _*_}
 use native.Mathlib.Omega.{arith}
-use mathlib.Core.Path.{_≡_, refl, sym, _∙_, ap}
+use mathlib.Core.Path.{refl, _∙_, ap}
 use borrow.Author.Needs.{needs}
-use lib.ListN.{length, replicate}
+use lib.ListN.{replicate}
 use Rattle.parameters.specs.Answers.{setFrom}
 use Rattle.draws.proofs.Runs.{said-exhausted}
-use Rattle.encryption.specs.Elements.{Exact, MaskDrawn}
+use Rattle.encryption.specs.Elements.{MaskDrawn}
 use Rattle.encryption.proofs.Mask.{mask-within, mask-told}
 use Rattle.encryption.proofs.Returns.{encrypt-exhausted, encryptExit-work}
 use Rattle.encryption.proofs.encrypt_judged.Statement.{statement}

@@ -1,10 +1,9 @@
 -- `sum_element` adds the noise and the message to the product, one after the other, in part 7.
 -- Assumes nothing.
-use Prim.Native.Nat.{ℕ, _+_, _-_, _*_, _≤_, _<_}
+use Prim.Native.Nat.{ℕ, _*_}
 use native.Mathlib.Omega.{arith}
-use mathlib.Core.Path.{_≡_, sym, _∙_, ap}
+use mathlib.Core.Path.{_≡_, _∙_, ap}
 use borrow.Author.Needs.{needs}
-use lib.ListN.{length}
 use Rattle.definitions.specs.Parameters.{smallLength}
 use Rattle.definitions.proofs.Parameters.{modulus-positive}
 use Rattle.parameters.specs.Answers.{setFrom}

@@ -3,8 +3,7 @@
 use Prim.Native.Nat.{ℕ, _+_, _-_, _*_, _≤_, _<_}
 use native.Mathlib.Nat.{add-zero, add-assoc}
 use native.Mathlib.Omega.{arith}
-use mathlib.Core.Path.{_≡_, refl, sym, _∙_, ap}
-use lib.ListN.{length}
+use mathlib.Core.Path.{_≡_, sym, _∙_, ap}
 use Rattle.definitions.specs.Sequences.{sum}
 use Rattle.definitions.specs.Parameters.{monomialCount}
 use Rattle.ring.specs.Work.{part}

@@ -1,6 +1,6 @@
 -- `add_pair` leaves the sum where the pair's product is another monomial, and otherwise loads the key's element and adds the product.
 -- Assumes nothing.
-use Prim.Native.Nat.{ℕ, _+_, _*_, _≤_}
+use Prim.Native.Nat.{_+_, _*_, _≤_}
 use native.Mathlib.Omega.{arith}
 use mathlib.Core.Path.{_≡_, sym, _∙_}
 use borrow.Author.Needs.{needs}

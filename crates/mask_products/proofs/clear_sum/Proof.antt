@@ -8,7 +8,7 @@ use lib.ListN.{length, replicate, length-replicate}
 use borrow.Author.Needs.{needs}
 use Rattle.ring.specs.Work.{written}
 use Rattle.values.proofs.Parts.{putMid-written}
-use Rattle.mask_products.proofs.Sums.{length-lent, summed-zeros}
+use Rattle.mask_products.proofs.Sums.{length-borrowed, summed-zeros}
 use Rattle.mask_products.proofs.clear_sum.Statement.{statement}
 use Rattle.mask_products.proofs.clear_sum.Tie as tie
 
@@ -41,7 +41,7 @@ returns c =
     let s = c .before .before .before .before .before in
     let a = s .args in
     let zeros : c .before .before .clear .last .0 ≡ replicate (a .n) 0 =
-    c .before .before .clear .ensures ∙ ap (λ (m : ℕ). replicate m 0) (length-lent (7 * a .n) (a .n) (a .work .now) (omega arith)) in
+    c .before .before .clear .ensures ∙ ap (λ (m : ℕ). replicate m 0) (length-borrowed (7 * a .n) (a .n) (a .work .now) (omega arith)) in
     summed-zeros (a .n) (a .q) (a .work .now) _ (s .pre .1)
     (putMid-written (7 * a .n) (a .n) (a .work .now) _ (ap length zeros ∙ length-replicate (a .n) 0)
     ∙ ap (λ (l : List ℕ). written (7 * a .n) l (a .work .now)) zeros)

@@ -1,8 +1,8 @@
 -- `product_at`: after i turns part 7 holds the terms of the key's first i monomials with all of the mask's; the sum begins at 0.
 -- Assumes nothing.
-use Prim.Native.Nat.{ℕ, _+_, _-_, _*_, _≤_, _<_}
+use Prim.Native.Nat.{ℕ, _+_, _-_, _≤_}
 use native.Mathlib.Omega.{arith}
-use mathlib.Core.Path.{_≡_, refl, sym, _∙_, ap}
+use mathlib.Core.Path.{_≡_, sym, _∙_, ap}
 use Rattle.definitions.specs.Sequences.{sum}
 use Rattle.definitions.specs.Parameters.{monomialCount}
 use Rattle.values.specs.Folding.{flat}

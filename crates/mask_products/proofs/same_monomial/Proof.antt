@@ -2,8 +2,7 @@
 -- Assumes nothing.
 use Prim.Native.Nat.{_+_}
 use native.Mathlib.Omega.{arith}
-use mathlib.Core.Path.{_≡_, sym, _∙_, ap₂}
-use borrow.Author.Needs.{needs}
+use mathlib.Core.Path.{sym, _∙_, ap₂}
 use Rattle.mask_products.proofs.Sums.{sameMonomial-other-x, sameMonomial-other-y, sameMonomial-both, exponent-x-most, exponent-y-most}
 use Rattle.mask_products.proofs.same_monomial.Statement.{statement}
 use Rattle.mask_products.proofs.same_monomial.Tie as tie
