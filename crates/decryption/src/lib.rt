@@ -3,10 +3,10 @@
 // ciphertext that is not below q (8) and a number past the message that is not 0 (10); a refusal leaves the message as it was. The work
 // words are zero after every ending past the length test. The contract cites the definitions' decryptExit.
 ghost use mathlib.Core.Path.{_≡_};
-ghost use Prim.Native.Nat.{_+_, _*_, _%_, _≤_, _<_};
+ghost use Prim.Native.Nat.{_+_, _*_, _^_, _%_, _≤_, _<_};
 ghost use lib.ListN.{length};
 ghost use Rattle.definitions.specs.Sequences.{tabulate};
-ghost use Rattle.definitions.specs.Parameters.{messageLength, workLength};
+ghost use Rattle.definitions.specs.Parameters.{smallBits, messageLength, workLength};
 ghost use Rattle.definitions.specs.Ring.{modulo};
 ghost use Rattle.definitions.specs.Calls.{DecryptExit, decryptExit};
 ghost use Rattle.definitions.specs.Demand3.{AcceptedSet};
@@ -18,14 +18,15 @@ use parameters::Parameters;
 use parameters::lengths;
 use parameters::refusals;
 
-// Each word of a part modulo l.
+// Each word of a part modulo l, a power of two.
 fn reduce(work: &mut [u32], at: usize, n: usize, l: u32)
-    requires { ⌜ (at + n ≤ length (now work)) × (0 < l) ⌝ }
+    requires { ⌜ (at + n ≤ length (now work)) × (l ≡ 2 ^ smallBits l) ⌝ }
     ensures { λ _. ⌜ now (work .exit) ≡ written at (tabulate n (λ k. part (now (work .entry)) at k % l)) (now (work .entry)) ⌝ }
 {
+    let mask = l - 1;
     let mut k = 0;
     while k < n {
-        work[at + k] = work[at + k] % l;
+        work[at + k] = work[at + k] & mask;
         k += 1;
     }
 }
@@ -93,6 +94,5 @@ pub fn decrypt(
         return refusals::LENGTH;
     }
     let number = decrypted(p, secret, ciphertext, message, work);
-    ring::clear(work);
-    number
+    ring::cleared(work, number)
 }

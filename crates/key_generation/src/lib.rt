@@ -124,12 +124,10 @@ pub fn keygen(
         return refusals::LENGTH;
     }
     if random.len() < start {
-        ring::clear(work);
-        return refusals::EXHAUSTED;
+        return ring::cleared(work, refusals::EXHAUSTED);
     }
     let Run::Complete(groups) = draw_others(random, p, work) else {
-        ring::clear(work);
-        return refusals::EXHAUSTED;
+        return ring::cleared(work, refusals::EXHAUSTED);
     };
     write_keys(random, p, secret, public, work);
     *used = (start + lengths::octets_of_coefficient(p.q) * groups) as u64;

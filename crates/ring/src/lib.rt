@@ -274,3 +274,11 @@ pub fn clear(work: &mut [u32])
         k += 1;
     }
 }
+
+// The number, once the work words are zero: how a call ends past its length test (01, "Numbers and refusals").
+pub fn cleared(work: &mut [u32], number: u32) -> u32
+    ensures { λ r. ⌜ (r ≡ number) × (now (work .exit) ≡ replicate (length (now (work .entry))) 0) ⌝ }
+{
+    clear(work);
+    number
+}

@@ -44,6 +44,5 @@ pub fn is_zero(p: Parameters, secret: &[u8], public: &[u8], work: &mut [u32], ze
         return refusals::LENGTH;
     }
     let number = tested(p, secret, public, work, zero);
-    ring::clear(work);
-    number
+    ring::cleared(work, number)
 }

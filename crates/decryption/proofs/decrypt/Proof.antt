@@ -79,20 +79,21 @@ message-exact c = c .before .before .if4 .left ∙ c .before .before .before .me
 decrypted-requires : tie.Need-decrypted-requires
 decrypted-requires c κs = (exact (c .before .before), message-exact (c .before .before))
 
-clear-requires : tie.Need-clear-requires
-clear-requires c κs = search needs
+cleared-requires : tie.Need-cleared-requires
+cleared-requires c κs = search needs
 
 same-length : tie.Need-same-length
 same-length c = c .before .before .before .before .before .before .before .before .decrypted .kept .1 .1 .1 .0
 
 same-length-2 : tie.Need-same-length-2
-same-length-2 c = c .before .before .clear .kept .0 ∙ c .before .before .before .before .before .before .before .before .decrypted .kept .1 .1 .1 .1 .0
+same-length-2 c = c .before .before .cleared .kept .0 ∙ c .before .before .before .before .before .before .before .before .decrypted .kept .1 .1 .1 .1 .0
 
 returns-6 : tie.Need-returns-6
 returns-6 c =
     let a = c .before .before .before .before .before .before .before .before .before .before .before .before .before .before .before .before .before .before .before .before .before .before .before .before .before .args in
-    decrypt-decrypted (setFrom (a .p)) (a .secret .now) (a .ciphertext .now) (a .message .now) (a .work .now) (exact (c .before .before .before .before .before .before .before .before .before .before .before)) (message-exact (c .before .before .before .before .before .before .before .before .before .before .before)) (c .before .before .before .before .before .before .before .before .decrypted .result) (c .before .before .before .before .before .before .before .before .decrypted .ensures)
-    (c .before .before .clear .ensures ∙ ap (λ (m : ℕ). replicate m 0) (c .before .before .before .before .before .before .before .before .decrypted .kept .1 .1 .1 .1 .0))
+    rw (c .before .before .cleared .ensures .0)
+    (decrypt-decrypted (setFrom (a .p)) (a .secret .now) (a .ciphertext .now) (a .message .now) (a .work .now) (exact (c .before .before .before .before .before .before .before .before .before .before .before)) (message-exact (c .before .before .before .before .before .before .before .before .before .before .before)) (c .before .before .before .before .before .before .before .before .decrypted .result) (c .before .before .before .before .before .before .before .before .decrypted .ensures)
+    (c .before .before .cleared .ensures .1 ∙ ap (λ (m : ℕ). replicate m 0) (c .before .before .before .before .before .before .before .before .decrypted .kept .1 .1 .1 .1 .0)))
 
 pub decrypt-spec : {M : Type 1} → statement M
 decrypt-spec =
@@ -109,7 +110,7 @@ decrypt-spec =
     work-length-requires
     returns-5
     decrypted-requires
-    clear-requires
+    cleared-requires
     same-length
     same-length-2
     returns-6)

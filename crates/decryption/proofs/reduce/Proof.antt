@@ -1,18 +1,28 @@
--- `reduce` writes one word a turn: after k turns the first k words are modulo l.
+-- `reduce` writes one word a turn: after k turns the first k words are modulo l, since l is a power of two and the bits below it are kept.
 -- Assumes nothing.
-use Prim.Native.Nat.{ℕ, _+_, _-_, _%_, _≤_}
-use mathlib.Core.Path.{refl, ap}
+use Prim.Native.Nat.{ℕ, _+_, _-_, _%_, _^_, _≤_}
+use lib.Bits.{bitAnd, and-mask}
+use lib.Pow.{pow-pos}
+use Rattle.definitions.specs.Parameters.{smallBits}
+use mathlib.Core.Path.{_≡_, refl, sym, ap, subst, _∙_}
 use native.Mathlib.Omega.{arith}
 use Rattle.ring.specs.Work.{part}
 use Rattle.ring.proofs.Work.{Writing, writing-none, writing-more, writing-ahead, writing-all}
 use Rattle.decryption.proofs.reduce.Statement.{statement}
 use Rattle.decryption.proofs.reduce.Tie as tie
 
+-- the bits below l
+masked : (l x : ℕ) → l ≡ 2 ^ smallBits l → bitAnd x (l - 1) ≡ x % l
+masked l x e = subst (λ (m : ℕ). bitAnd x (m - 1) ≡ x % m) (sym e) (and-mask x (smallBits l))
+
 abbrev Inv-loop : tie.InvT-loop
-Inv-loop work₀ at n l k₀ work k = (k ≤ n) × Writing at k (λ j. part work₀ at j % l) work₀ work
+Inv-loop work₀ at n l mask k₀ work k = (k ≤ n) × Writing at k (λ j. part work₀ at j % l) work₀ work
 
 abbrev μ-loop : tie.MeasureT-loop
-μ-loop work₀ at n l k₀ work k = n - k
+μ-loop work₀ at n l mask k₀ work k = n - k
+
+sub-mask : tie.Need-sub-mask Inv-loop μ-loop
+sub-mask c = omega (arith, c .pre .1, pow-pos (smallBits (c .args .l)))
 
 loop-holds : tie.Need-loop-holds Inv-loop μ-loop
 loop-holds c = (omega arith, writing-none _ _ _)
@@ -25,9 +35,6 @@ mul-work c = omega arith
 
 slice-read-work : tie.Need-slice-read-work Inv-loop μ-loop
 slice-read-work c = omega arith
-
-rem-work : tie.Need-rem-work Inv-loop μ-loop
-rem-work c = omega arith
 
 add-work-2 : tie.Need-add-work-2 Inv-loop μ-loop
 add-work-2 c = omega arith
@@ -46,11 +53,12 @@ loop-less c = omega arith
 
 loop-again : tie.Need-loop-again Inv-loop μ-loop
 loop-again c =
-    let a = c .before .before .before .args in
+    let start = c .before .before .before in
+    let a = start .args in
     let l = c .before .before .loop in (
       omega arith,
       writing-more (l .inv .1) refl (omega arith)
-          (ap (λ (x : ℕ). x % a .l) (writing-ahead (a .at + l .k) (l .inv .1) (omega arith) (omega arith))),
+          (masked (a .l) _ (start .pre .1) ∙ ap (λ (x : ℕ). x % a .l) (writing-ahead (a .at + l .k) (l .inv .1) (omega arith) (omega arith))),
     )
 
 same-length : tie.Need-same-length Inv-loop μ-loop
@@ -65,11 +73,11 @@ reduce-spec =
     (tie.spec
     Inv-loop
     μ-loop
+    sub-mask
     loop-holds
     add-work
     mul-work
     slice-read-work
-    rem-work
     add-work-2
     mul-work-2
     slice-write-work

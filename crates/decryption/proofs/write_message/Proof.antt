@@ -9,7 +9,7 @@ use borrow.Author.Needs.{needs}
 use lib.ListN.{length}
 use Rattle.definitions.specs.Parameters.{smallBits, workLength}
 use Rattle.definitions.specs.Ring.{modulo}
-use Rattle.definitions.proofs.Parameters.{Accepted, accepted-set, range-least}
+use Rattle.definitions.proofs.Parameters.{accepted-set, smallBits-power}
 use Rattle.parameters.specs.Answers.{setFrom}
 use Rattle.parameters.proofs.Bounds.{smallBits-within}
 use Rattle.decryption.proofs.Tail.{reduced-fits, message-tail, message-written}
@@ -32,9 +32,8 @@ room n e = omega arith
 reduce-requires : tie.Need-reduce-requires
 unfolding workLength
 reduce-requires c κs =
-    let set : Accepted (setFrom (c .before .before .before .before .args .p)) = accepted-set _ (c .before .before .before .before .pre .0) in
-    let least : 2 ≤ c .before .before .before .before .args .p .l = range-least (setFrom (c .before .before .before .before .args .p)) (set .range) in
-    (room (c .before .before .before .before .args .p .n) (c .before .before .before .before .pre .2), omega (arith, least))
+    let start = c .before .before .before .before in
+    (room (start .args .p .n) (start .pre .2), smallBits-power (setFrom (start .args .p)) (accepted-set _ (start .pre .0) .range))
 
 bits-requires : tie.Need-bits-requires
 bits-requires c κs = search needs

@@ -59,15 +59,16 @@ exact c =
 
 -- ---- the random octets
 
-clear-requires : tie.Need-clear-requires
-clear-requires c κs = search needs
+cleared-requires : tie.Need-cleared-requires
+cleared-requires c κs = search needs
 
 same-length : tie.Need-same-length
 same-length c = search needs
 
 returns-5 : tie.Need-returns-5
 returns-5 c = let a = c .before .before .before .before .before .before .before .before .before .before .before .before .before .before .before .before .before .args in
-    keygen-short (setFrom (a .p)) (a .random .now) (a .secret .now) (a .public .now) (a .used .now) (a .work .now) (exact (c .before .before .before .before .before)) (rw (c .before .before .before .before .before .before .before .before .before .before .secret-length .ensures) at (c .before .before .before .before .if5 .taken)) (c .before .before .clear .ensures)
+    rw (c .before .before .cleared .ensures .0)
+    (keygen-short (setFrom (a .p)) (a .random .now) (a .secret .now) (a .public .now) (a .used .now) (a .work .now) (exact (c .before .before .before .before .before)) (rw (c .before .before .before .before .before .before .before .before .before .before .secret-length .ensures) at (c .before .before .before .before .if5 .taken)) (c .before .before .cleared .ensures .1))
 
 room : (c : tie.Else5) → secretLength (setFrom (c .before .before .before .before .before .before .before .before .before .before .before .before .before .args .p)) ≤ length (c .before .before .before .before .before .before .before .before .before .before .before .before .before .args .random .now)
 room c = rw (c .before .before .before .before .before .before .secret-length .ensures) at (c .if5 .left)
@@ -81,16 +82,17 @@ enum-known-groups c = search needs
 enum-told : tie.Need-enum-told
 enum-told c = search needs
 
-clear-requires-2 : tie.Need-clear-requires-2
-clear-requires-2 c κs = search needs
+cleared-requires-2 : tie.Need-cleared-requires-2
+cleared-requires-2 c κs = search needs
 
 same-length-2 : tie.Need-same-length-2
 same-length-2 c = search needs
 
 returns-6 : tie.Need-returns-6
 returns-6 c = let a = c .before .before .before .before .before .before .before .before .before .before .before .before .before .before .before .before .before .before .before .before .before .before .before .args in
-    keygen-exhausted (setFrom (a .p)) (a .random .now) (a .secret .now) (a .public .now) (a .used .now) (a .work .now) (exact (c .before .before .before .before .before .before .before .before .before .before .before)) (room (c .before .before .before .before .before .before .before .before .before .before)) (said-exhausted _ _ (c .before .before .before .before .enum-told .given .1) (c .before .before .before .before .before .before .before .before .draw-others .ensures))
-    (c .before .before .clear2 .ensures ∙ ap (λ (m : ℕ). replicate m 0) (c .before .before .before .before .before .before .before .before .draw-others .kept .1 .1 .0))
+    rw (c .before .before .cleared2 .ensures .0)
+    (keygen-exhausted (setFrom (a .p)) (a .random .now) (a .secret .now) (a .public .now) (a .used .now) (a .work .now) (exact (c .before .before .before .before .before .before .before .before .before .before .before)) (room (c .before .before .before .before .before .before .before .before .before .before)) (said-exhausted _ _ (c .before .before .before .before .enum-told .given .1) (c .before .before .before .before .before .before .before .before .draw-others .ensures))
+    (c .before .before .cleared2 .ensures .1 ∙ ap (λ (m : ℕ). replicate m 0) (c .before .before .before .before .before .before .before .before .draw-others .kept .1 .1 .0)))
 
 -- ---- the keys
 
@@ -149,13 +151,13 @@ keygen-spec =
     returns-3
     work-length-requires
     returns-4
-    clear-requires
+    cleared-requires
     same-length
     returns-5
     draw-others-requires
     enum-known-groups
     enum-told
-    clear-requires-2
+    cleared-requires-2
     same-length-2
     returns-6
     write-keys-requires

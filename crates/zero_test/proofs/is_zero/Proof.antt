@@ -65,17 +65,18 @@ exact c =
 tested-requires : tie.Need-tested-requires
 tested-requires c κs = exact (c .before .before)
 
-clear-requires : tie.Need-clear-requires
-clear-requires c κs = search needs
+cleared-requires : tie.Need-cleared-requires
+cleared-requires c κs = search needs
 
 same-length : tie.Need-same-length
-same-length c = c .before .before .clear .kept .0 ∙ c .before .before .before .before .before .before .tested .kept .1 .1 .1 .0
+same-length c = c .before .before .cleared .kept .0 ∙ c .before .before .before .before .before .before .tested .kept .1 .1 .1 .0
 
 returns-5 : tie.Need-returns-5
 returns-5 c =
     let a = c .before .before .before .before .before .before .before .before .before .before .before .before .before .before .before .before .before .before .before .before .args in
-    is-zero-tested (setFrom (a .p)) (a .secret .now) (a .public .now) (a .zero .now) (a .work .now) (exact (c .before .before .before .before .before .before .before .before .before)) (c .before .before .before .before .before .before .tested .result) (c .before .before .before .before .before .before .tested .ensures)
-    (c .before .before .clear .ensures ∙ ap (λ (m : ℕ). replicate m 0) (c .before .before .before .before .before .before .tested .kept .1 .1 .1 .0))
+    rw (c .before .before .cleared .ensures .0)
+    (is-zero-tested (setFrom (a .p)) (a .secret .now) (a .public .now) (a .zero .now) (a .work .now) (exact (c .before .before .before .before .before .before .before .before .before)) (c .before .before .before .before .before .before .tested .result) (c .before .before .before .before .before .before .tested .ensures)
+    (c .before .before .cleared .ensures .1 ∙ ap (λ (m : ℕ). replicate m 0) (c .before .before .before .before .before .before .tested .kept .1 .1 .1 .0)))
 
 pub is-zero-spec : {M : Type 1} → statement M
 is-zero-spec =
@@ -90,6 +91,6 @@ is-zero-spec =
     work-length-requires
     returns-4
     tested-requires
-    clear-requires
+    cleared-requires
     same-length
     returns-5)
