@@ -3,9 +3,10 @@
 --   decimalLength-..        a number has just that many digits
 --   digits-suc              the last digits of a number, by the first of them
 --   decimal-decimalText     the text of a number reads as the number;  isNumber-decimalText: and is a number of the grammar
+--   roomsheet-empty-line    an empty line has an answer of its own
 -- Assumes nothing.
 use Prim.Native.Nat.{ℕ, zero, suc, _+_, _-_, _*_, _/_, _%_, _^_, _≤_, _<_}
-use mathlib.Core.Path.{_≡_, ap, ap₂, _∙_}
+use mathlib.Core.Path.{_≡_, refl, ap, ap₂, _∙_}
 use mathlib.Core.Bool.{Bool, true, cond, _||_, or-true}
 use mathlib.Core.List.{_∷_}
 use native.Mathlib.Nat.{add-sub-cancel-left, zero-mul, zero-add, pow-succ', pow-le-pow-right, one-le-pow, mod-eq-of-lt, le-trans, suc-sub-suc, sub-zero, mul-one, add-zero, div-lt-iff-lt-mul, le-div-iff-mul-le}
@@ -15,8 +16,8 @@ use borrow.Author.Tests.{le-leb, lt-leb, eq-eqb}
 use lib.Dec.{leb, eqb}
 use lib.Arith.{mod-mul}
 use lib.ListN.{length, getD}
-use Rattle.definitions.specs.Sequences.{sum, every, howMany, tabulate}
-use Rattle.definitions.specs.Roomsheet.{Text, isDigit, decimalFrom, decimal, isNumber, decimalLength, decimalText}
+use Rattle.definitions.specs.Sequences.{sum, every, joined, howMany, tabulate}
+use Rattle.definitions.specs.Roomsheet.{Text, split, linesOf, isDigit, decimalFrom, decimal, isNumber, decimalLength, decimalText, wellFormed, lineAnswer, roomsheet}
 use Rattle.definitions.proofs.Sums.{sum-cong, sum-const, every-true, length-tabulate, getD-tabulate, tabulate-cong}
 
 -- ---- how many digits
@@ -143,3 +144,8 @@ isNumber-decimalText x h =
       le-leb x 4294967295 (omega arith),
       le-leb 1 (length (decimalText x)) (omega (arith, length-decimalText x, decimalLength-positive x)),
     )
+
+-- an empty line is malformed: it is answered like any other, by 11
+pub roomsheet-empty-line : (text : Text) → roomsheet (10 ∷ text) ≡ 49 ∷ 49 ∷ 10 ∷ roomsheet text
+unfolding roomsheet linesOf lineAnswer wellFormed split joined decimalText decimalLength howMany sum tabulate
+roomsheet-empty-line text = refl
