@@ -115,16 +115,16 @@ module _ (p : Parameters) (public message random : List ℕ) (start : ℕ) where
   abbrev pub ofMask : List ℕ → Polynomial
   ofMask work = encryptedWith p (flat (p .n) (qlen (p .q)) public) (smallOf p message) (maskIn (p .n) work) (noiseOf p (drop start random))
 
-  pub summed-element : {old mid last new : List ℕ} {r width : ℕ} (m : ℕ) → r ≡ smallLength p → width ≡ qlen (p .q)
-      → Summed (p .n) (p .q) (productOf (p .n) (p .dx) (p .dr) (flat (p .n) width public) (maskIn (p .n) old) m) old mid
+  pub summed-element : {old mid last new : List ℕ} {r : ℕ} (m : ℕ) → r ≡ smallLength p
+      → Summed (p .n) (p .q) (productOf (p .n) (p .dx) (p .dr) (flat (p .n) (qlen (p .q)) public) (maskIn (p .n) old) m) old mid
       → Summed (p .n) (p .q) (λ k. part mid (7 * p .n) k + p .l * getD (noiseDrawn p (drop (start + m * r) random)) k 0) mid last
       → Summed (p .n) (p .q) (λ k. part last (7 * p .n) k + constantTerm (degree p) (smallOf p message) m k) last new
       → Summed (p .n) (p .q) (encryptedSum p (flat (p .n) (qlen (p .q)) public) (smallOf p message) (maskIn (p .n) old) (noiseOf p (drop start random)) m) old new
-  summed-element {old} {r = r} {width = width} m e w product noise term =
-      let both : Summed (p .n) (p .q) (λ k. productOf (p .n) (p .dx) (p .dr) (flat (p .n) width public) (maskIn (p .n) old) m k + p .l * getD (noiseDrawn p (drop (start + m * r) random)) k 0) old _ =
+  summed-element {old} {r = r} m e product noise term =
+      let both : Summed (p .n) (p .q) (λ k. productOf (p .n) (p .dx) (p .dr) (flat (p .n) (qlen (p .q)) public) (maskIn (p .n) old) m k + p .l * getD (noiseDrawn p (drop (start + m * r) random)) k 0) old _ =
       summed-then (λ k. p .l * getD (noiseDrawn p (drop (start + m * r) random)) k 0) product noise (λ k l. refl) in
       summed-then (λ k. constantTerm (degree p) (smallOf p message) m k) both term (λ k l.
-      rw (e, w, noiseOf-drop p random start m k))
+      rw (e, noiseOf-drop p random start m k))
 
   pub element-step : (begun old new : List ℕ) {work summed : List ℕ} {width : ℕ} (m : ℕ) → p .dr ≤ 2 → width ≡ qlen (p .q)
       → ((i : ℕ) → i < 6 * p .n → getD work i 0 ≡ getD begun i 0)

@@ -2,7 +2,7 @@
 --
 --   summed-none      before the first turn;  summed-then: one turn after others;  summed-same: the same sum, written otherwise
 --   summed-written   what loading a key element and multiplying leave;  summed-zeros: what clearing leaves
---   inputs-kept      what was asked of the work words at entry still holds
+--   inputs-same      what was asked of the work words at entry still holds where the first six parts are as they were;  inputs-kept: after a turn
 -- Assumes nothing.
 use Prim.Native.Nat.{ℕ, zero, suc, _+_, _-_, _*_, _%_, _≤_, _<_}
 use native.Mathlib.Nat.{mod-add-mod, mod-eq-of-lt, mod-lt, mul-le-mul-right, mul-one, mul-zero, add-zero, add-comm, zero-mod}
@@ -182,11 +182,11 @@ summed-product {n} {q} dx dr key m d s t =
 pub summed-start : {n q : ℕ} {old mid : List ℕ} → Summed n q (λ k. 0) old mid → Summed n q (λ k. 0) mid mid
 summed-start s = record { sum = s .sum; kept = λ i l. refl; as-long = refl }
 
-pub inputs-kept : {n qlen q dx dr m : ℕ} {public old new : List ℕ} {f : Element} → Inputs n qlen q dx dr m public old → Summed n q f old new
-    → Inputs n qlen q dx dr m public new
-inputs-kept {dr = dr} g s =
+pub inputs-same : {n qlen q dx dr m : ℕ} {public old new : List ℕ} → Inputs n qlen q dx dr m public old → length new ≡ length old
+    → ((i : ℕ) → i < 6 * n → getD new i 0 ≡ getD old i 0) → Inputs n qlen q dx dr m public new
+inputs-same {n} {dr = dr} g long kept =
     record {
-      sizes = record { places = g .sizes .places; most = g .sizes .most; octets-least = g .sizes .octets-least; octets-most = g .sizes .octets-most; room = s .as-long ∙ g .sizes .room };
+      sizes = record { places = g .sizes .places; most = g .sizes .most; octets-least = g .sizes .octets-least; octets-most = g .sizes .octets-most; room = long ∙ g .sizes .room };
       modulus-least = g .modulus-least;
       modulus-most = g .modulus-most;
       key-degree = g .key-degree;
@@ -194,8 +194,14 @@ inputs-kept {dr = dr} g s =
       place = g .place;
       room = g .room;
       key = g .key;
-      mask = λ j l k b. rw (mask-kept s {j = j} (omega (arith, count-six dr (g .mask-degree))) k b) (g .mask j l k b);
+      mask = λ j l k b.
+          let few : j * n + n ≤ 6 * n = part-room n j 6 (omega (arith, count-six dr (g .mask-degree))) in
+          rw (kept (j * n + k) (omega arith)) (g .mask j l k b);
     }
+
+pub inputs-kept : {n qlen q dx dr m : ℕ} {public old new : List ℕ} {f : Element} → Inputs n qlen q dx dr m public old → Summed n q f old new
+    → Inputs n qlen q dx dr m public new
+inputs-kept g s = inputs-same g (s .as-long) (s .kept)
 
 -- ---- what is asked of a key element and of a mask element
 module _ {n qlen q dx dr m : ℕ} {public old : List ℕ} (g : Inputs n qlen q dx dr m public old) where

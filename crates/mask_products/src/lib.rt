@@ -15,7 +15,7 @@ ghost use Rattle.values.specs.Folding.{flat};
 ghost use Rattle.mask_products.specs.Products.{maskIn, pairTerm, Inputs, Summed};
 
 // 1 where the i-th monomial of degree dx times the j-th of dr is the m-th of dx + dr, otherwise 0.
-fn same_monomial(dx: usize, i: usize, dr: usize, j: usize, m: usize) -> u32
+pub fn same_monomial(dx: usize, i: usize, dr: usize, j: usize, m: usize) -> u32
     requires { ⌜ (dx ≤ 2) × (dr ≤ 2) × (i < monomialCount dx) × (j < monomialCount dr) × (m < monomialCount (dx + dr)) ⌝ }
     ensures { λ r. ⌜ r ≡ sameMonomial (monomialAt dx i) (monomialAt dr j) (monomialAt (dx + dr) m) ⌝ }
 {
@@ -50,7 +50,7 @@ fn add_pair(
     }
     let spare = 6 * n;
     values::load(public, i, n, qlen, work, spare);
-    ring::multiply_add(work, spare, j * n, 7 * n, n, q);
+    products::multiply_add(work, spare, j * n, 7 * n, n, q);
 }
 
 // One monomial of the key, with each of the mask.
@@ -77,7 +77,7 @@ fn add_element(
 }
 
 // Part 7 becomes 0.
-fn clear_sum(work: &mut [u32], n: usize, q: u32)
+pub fn clear_sum(work: &mut [u32], n: usize, q: u32)
     requires { ⌜ (n ≤ 4096) × (length (now work) ≡ 8 * n) × (0 < q) ⌝ }
     ensures { λ _. ⌜ Summed n q (λ _. 0) (now (work .entry)) (now (work .exit)) ⌝ }
 {

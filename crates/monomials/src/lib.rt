@@ -7,19 +7,19 @@ ghost use Rattle.definitions.specs.Parameters.{monomialCount};
 ghost use Rattle.definitions.specs.Monomials.{monomialAt};
 
 // The exponents of x and of y of the 15 monomials of degree at most 4.
-const EXPONENTS_X: [usize; 15] = [4, 3, 2, 1, 0, 3, 2, 1, 0, 2, 1, 0, 1, 0, 0];
+const EXPONENTS_X: [u8; 15] = [4, 3, 2, 1, 0, 3, 2, 1, 0, 2, 1, 0, 1, 0, 0];
 
-const EXPONENTS_Y: [usize; 15] = [0, 1, 2, 3, 4, 0, 1, 2, 3, 0, 1, 2, 0, 1, 0];
+const EXPONENTS_Y: [u8; 15] = [0, 1, 2, 3, 4, 0, 1, 2, 3, 0, 1, 2, 0, 1, 0];
 
 // Where the list of each degree starts in it: 15 less the number of its monomials.
-const START: [usize; 5] = [14, 12, 9, 5, 0];
+const START: [u8; 5] = [14, 12, 9, 5, 0];
 
 // The list of degree d is the table's tail from here on.
 fn start(d: usize) -> usize
     requires { ⌜ d ≤ 4 ⌝ }
     ensures { λ r. ⌜ r + monomialCount d ≡ 15 ⌝ }
 {
-    START[d]
+    START[d] as usize
 }
 
 // How many monomials have total degree at most d.
@@ -35,7 +35,7 @@ pub fn exponent_x(d: usize, i: usize) -> usize
     requires { ⌜ (d ≤ 4) × (i < monomialCount d) ⌝ }
     ensures { λ r. ⌜ r ≡ monomialAt d i .x ⌝ }
 {
-    EXPONENTS_X[start(d) + i]
+    EXPONENTS_X[start(d) + i] as usize
 }
 
 // The exponent of y.
@@ -43,5 +43,5 @@ pub fn exponent_y(d: usize, i: usize) -> usize
     requires { ⌜ (d ≤ 4) × (i < monomialCount d) ⌝ }
     ensures { λ r. ⌜ r ≡ monomialAt d i .y ⌝ }
 {
-    EXPONENTS_Y[start(d) + i]
+    EXPONENTS_Y[start(d) + i] as usize
 }

@@ -1,4 +1,3 @@
--- Laws of the work words.
+-- Laws of the work words, and of the product of two polynomials.
 pub mod Work
-pub mod Bounds
-pub mod Rows
+pub mod Linear

@@ -1,3 +1,3 @@
--- How elements stand in the work words, and how a product is summed.
+-- How elements stand in the work words, and the product of two polynomials.
 pub mod Work
-pub mod Rows
+pub mod Linear

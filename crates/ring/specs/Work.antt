@@ -4,6 +4,8 @@
 --   written          the words with a list written over them from an offset on; all others as they were
 --   Apart            two parts of n words have no word in common
 --   productAdded     c := a × b + c in R_q, the three given by their offsets
+--   elementAdded     c := c + e in R_q; elementTaken: c := c - e
+--   otherAdded       c := c + e in R_q, where the element e is no part of the words; otherTaken: c := c - e
 --   scaledAdded      c := c + l × e in R_q
 --   negated          a := -a in R_q
 -- Assumes nothing.
@@ -25,6 +27,18 @@ Apart a b n = (a + n ≤ b) ⊎ (b + n ≤ a)
 
 abbrev pub productAdded : ℕ → ℕ → ℕ → ℕ → ℕ → List ℕ → List ℕ
 productAdded n q a b c work = written c (tabulate n (λ k. (conv n (part work a) (part work b) k + part work c k) % q)) work
+
+abbrev pub elementAdded : ℕ → ℕ → ℕ → ℕ → List ℕ → List ℕ
+elementAdded n q e c work = written c (tabulate n (λ k. (part work c k + part work e k) % q)) work
+
+abbrev pub elementTaken : ℕ → ℕ → ℕ → ℕ → List ℕ → List ℕ
+elementTaken n q e c work = written c (tabulate n (λ k. (part work c k + (q - part work e k)) % q)) work
+
+abbrev pub otherAdded : ℕ → ℕ → Element → ℕ → List ℕ → List ℕ
+otherAdded n q e c work = written c (tabulate n (λ k. (part work c k + e k) % q)) work
+
+abbrev pub otherTaken : ℕ → ℕ → Element → ℕ → List ℕ → List ℕ
+otherTaken n q e c work = written c (tabulate n (λ k. (part work c k + (q - e k)) % q)) work
 
 abbrev pub scaledAdded : ℕ → ℕ → ℕ → ℕ → ℕ → List ℕ → List ℕ
 scaledAdded n q l e c work = written c (tabulate n (λ k. (part work c k + l * part work e k) % q)) work

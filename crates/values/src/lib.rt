@@ -1,4 +1,4 @@
-// The value of a polynomial in x and y at a secret (01, "Opening"), which decryption, the zero test and a key's constant need.
+// The value of a polynomial in x and y at a secret (01, "Draws from lent random octets": opening), which decryption, the zero test and a key's constant need.
 //
 // The polynomial's octets are lent. The work words are eight parts of n words: u_x, u_y, five for the terms of one total degree, and a spare
 // one. One total degree after the other is folded into the one below it: x^(k-j) y^j gives a factor u_x to x^(k-1-j) y^j, and y^k a factor
@@ -25,19 +25,6 @@ pub fn load(octets: &[u8], element: usize, n: usize, qlen: usize, work: &mut [u3
     octets::decode(&octets[from..end], qlen, &mut work[at..stop]);
 }
 
-// The spare part, copied to another.
-fn keep(work: &mut [u32], to: usize, n: usize)
-    requires { ⌜ (n ≤ 4096) × (length (now work) ≡ 8 * n) × (to + n ≤ 7 * n) ⌝ }
-    ensures { λ _. ⌜ now (work .exit) ≡ written to (tabulate n (part (now (work .entry)) (7 * n))) (now (work .entry)) ⌝ }
-{
-    let from = 7 * n;
-    let mut k = 0;
-    while k < n {
-        work[to + k] = work[from + k];
-        k += 1;
-    }
-}
-
 // One term of total degree k - 1: its coefficient and u_x times the term of total degree k at the same place.
 fn fold_term(
     octets: &[u8],
@@ -54,8 +41,8 @@ fn fold_term(
 {
     load(octets, element, n, qlen, work, 7 * n);
     let at = (2 + j) * n;
-    ring::multiply_add_small(work, at, 0, 7 * n, n, q);
-    keep(work, at, n);
+    products::multiply_add_small(work, at, 0, 7 * n, n, q);
+    ring::copy(work, at, 7 * n, n);
 }
 
 // The last term of total degree k - 1, y^(k-1): u_y times y^k comes to it as well.
@@ -74,9 +61,9 @@ fn fold_last(
 {
     load(octets, element, n, qlen, work, 7 * n);
     let at = (2 + j) * n;
-    ring::multiply_add_small(work, at, 0, 7 * n, n, q);
-    ring::multiply_add_small(work, at + n, n, 7 * n, n, q);
-    keep(work, at, n);
+    products::multiply_add_small(work, at, 0, 7 * n, n, q);
+    products::multiply_add_small(work, at + n, n, 7 * n, n, q);
+    ring::copy(work, at, 7 * n, n);
 }
 
 // The terms of total degree k - 1 from those of k: their coefficients stand from an element of the octets on.

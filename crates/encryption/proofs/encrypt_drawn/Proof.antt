@@ -62,8 +62,8 @@ returns c =
     encrypt-noise-exhausted (setFrom (s .args .p)) (s .args .public .now) (s .args .message .now) (s .args .random .now) (s .args .ciphertext .now) (s .args .used .now) (s .args .work .now) (s .pre .0) (s .pre .1) (s .pre .2 .enough)
     (c .before .before .cleared .ensures) (omega (arith, counted (c .before .before .before .before .before), c .before .before .before .before .if1 .taken))
 
-encrypt-elements-requires : tie.Need-encrypt-elements-requires
-encrypt-elements-requires c κs =
+encrypt-by-degrees-requires : tie.Need-encrypt-by-degrees-requires
+encrypt-by-degrees-requires c κs =
     let s = c .before .before .before .before .before .before .before .before .before .before .before in
     let room : s .args .start + monomialCount (degree (setFrom (s .args .p))) * smallLength (setFrom (s .args .p)) ≤ length (s .args .random .now) =
     rw (← c .before .before .before .before .monomial-count .ensures, ← c .before .before .before .small-length .ensures) (c .before .before .if1 .left) in
@@ -82,7 +82,7 @@ returns-2 : tie.Need-returns-2
 returns-2 c =
     let s = c .before .before .before .before .before .before .before .before .before .before .before .before .before .before .before .before .before .before .before .before in
     let p = setFrom (s .args .p) in
-    let all = c .before .before .before .before .before .before .before .before .encrypt-elements in
+    let all = c .before .before .before .before .before .before .before .before .encrypt-by-degrees in
     encrypt-accepted (setFrom (s .args .p)) (s .args .public .now) (s .args .message .now) (s .args .random .now) (s .args .ciphertext .now) (s .args .used .now) (s .args .work .now) (s .pre .0) (s .pre .1) (s .pre .2 .enough)
     (omega (arith, counted (c .before .before .before .before .before .before .before .before .before .before .before .before), c .before .before .before .before .before .before .before .before .before .before .before .if1 .left))
     (c .before .before .cleared2 .ensures .0, c .before .before .cleared2 .ensures .1 ∙ ap (λ (n : ℕ). replicate n 0) (all .kept .1 .1 .1 .1 .1 .1 .0))
@@ -101,7 +101,7 @@ encrypt-drawn-spec =
     cleared-requires
     same-length
     returns
-    encrypt-elements-requires
+    encrypt-by-degrees-requires
     cleared-requires-2
     same-length-2
     same-length-3

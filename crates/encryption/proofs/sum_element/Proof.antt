@@ -13,12 +13,6 @@ use Rattle.encryption.proofs.Ciphertext.{summed-element}
 use Rattle.encryption.proofs.sum_element.Statement.{statement}
 use Rattle.encryption.proofs.sum_element.Tie as tie
 
-cast-n : tie.Need-cast-n
-cast-n c = search needs
-
-octets-of-coefficient-requires : tie.Need-octets-of-coefficient-requires
-octets-of-coefficient-requires c κs = search needs
-
 small-length-requires : tie.Need-small-length-requires
 small-length-requires c κs = search needs
 
@@ -34,31 +28,23 @@ add-at c =
     let same : s .args .m * c .small-length .result ≡ s .args .m * smallLength (setFrom (s .args .p)) = ap (λ (x : ℕ). s .args .m * x) (c .small-length .ensures) in
     omega (arith, ready-noise (s .pre .0) (s .pre .1))
 
-cast-product-at : tie.Need-cast-product-at
-cast-product-at c = search needs
-
-cast-product-at-2 : tie.Need-cast-product-at-2
-cast-product-at-2 c = search needs
-
-product-at-requires : tie.Need-product-at-requires
-product-at-requires c κs =
-    let s = c .before .before .before .before .before .before .before .before .before .before in
-    rw (c .before .before .before .before .octets-of-coefficient .ensures) (ready-inputs (s .pre .0) (s .pre .1))
+product-element-requires : tie.Need-product-element-requires
+product-element-requires c κs = (ready-inputs (c .before .before .before .before .before .before .before .before .pre .0) (c .before .before .before .before .before .before .before .before .pre .1), c .before .before .before .before .before .before .before .before .pre .2)
 
 add-noise-requires : tie.Need-add-noise-requires
 add-noise-requires c κs =
-    let s = c .before .before .before .before .before .before .before .before .before .before .before .before .before .before in
+    let s = c .before .before .before .before .before .before .before .before .before .before .before .before in
     let g = s .pre .0 in
-    let product = c .before .before .before .product-at .ensures in
-    let r = c .before .before .before .before .before .before .before .small-length .result in
-    let same : s .args .m * r ≡ s .args .m * smallLength (setFrom (s .args .p)) = ap (λ (x : ℕ). s .args .m * x) (c .before .before .before .before .before .before .before .small-length .ensures) in
+    let product = c .before .before .before .product-element .ensures in
+    let r = c .before .before .before .before .before .small-length .result in
+    let same : s .args .m * r ≡ s .args .m * smallLength (setFrom (s .args .p)) = ap (λ (x : ℕ). s .args .m * x) (c .before .before .before .before .before .small-length .ensures) in
     (g .set, product .as-long ∙ g .work-exact, omega (arith, ready-noise g (s .pre .1)), summed-inRing (modulus-positive _ (ready-set g)) product)
 
 add-message-requires : tie.Need-add-message-requires
 add-message-requires c κs =
-    let s = c .before .before .before .before .before .before .before .before .before .before .before .before .before .before .before .before .before .before in
+    let s = c .before .before .before .before .before .before .before .before .before .before .before .before .before .before .before .before in
     let g = s .pre .0 in
-    let product = c .before .before .before .before .before .before .before .product-at .ensures in
+    let product = c .before .before .before .before .before .before .before .product-element .ensures in
     let noise = c .before .before .before .add-noise .ensures in
     (g .set, noise .as-long ∙ product .as-long ∙ g .work-exact, s .pre .1, summed-inRing (modulus-positive _ (ready-set g)) noise)
 
@@ -67,24 +53,18 @@ same-length c = search needs
 
 returns : tie.Need-returns
 returns c =
-    let s = c .before .before .before .before .before .before .before .before .before .before .before .before .before .before .before .before .before .before .before .before .before in
-    let a = s .args in
+    let a = c .before .before .before .before .before .before .before .before .before .before .before .before .before .before .before .before .before .before .before .args in
     summed-element (setFrom (a .p)) (a .public .now) (a .message .now) (a .random .now) (a .start) (a .m)
-    (c .before .before .before .before .before .before .before .before .before .before .before .before .before .before .small-length .ensures) (c .before .before .before .before .before .before .before .before .before .before .before .before .before .before .before .octets-of-coefficient .ensures)
-    (c .before .before .before .before .before .before .before .before .before .before .product-at .ensures) (c .before .before .before .before .before .before .add-noise .ensures) (c .before .before .add-message .ensures)
+    (c .before .before .before .before .before .before .before .before .before .before .before .before .small-length .ensures) (c .before .before .before .before .before .before .before .before .before .before .product-element .ensures) (c .before .before .before .before .before .before .add-noise .ensures) (c .before .before .add-message .ensures)
 
 pub sum-element-spec : {M : Type 1} → statement M
 sum-element-spec =
     tie.close
     (tie.spec
-    cast-n
-    octets-of-coefficient-requires
     small-length-requires
     mul-at
     add-at
-    cast-product-at
-    cast-product-at-2
-    product-at-requires
+    product-element-requires
     add-noise-requires
     add-message-requires
     same-length

@@ -1,18 +1,19 @@
 -- `monomials::start` meets its contract: the rule of the starts is a test at each of the five, which is computed.
 -- Assumes nothing.
+use native.Mathlib.Omega.{arith}
 use borrow.Author.Needs.{needs}
 use Rattle.monomials.proofs.Table.{start-at}
 use Rattle.monomials.proofs.start.Statement.{statement}
 use Rattle.monomials.proofs.start.Tie as tie
 
-mul-result : tie.Need-mul-result
-mul-result c = search needs
-
 array-read-result : tie.Need-array-read-result
 array-read-result c = search needs
+
+cast-result : tie.Need-cast-result
+cast-result c = omega (arith, start-at (c .args .d) (omega arith))
 
 returns : tie.Need-returns
 returns c = start-at (c .args .d) (search needs)
 
 pub start-spec : {M : Type 1} → statement M
-start-spec = tie.close (tie.spec mul-result array-read-result returns)
+start-spec = tie.close (tie.spec array-read-result cast-result returns)

@@ -1,42 +1,39 @@
--- `ring::copy` meets its contract: after k turns the first k words of the part are written.
+-- `ring::copy` meets its contract: after k turns the first k words are copied; the other part is not written.
 -- Assumes nothing.
-use Prim.Native.Nat.{_≤_, _+_, _-_}
+use Prim.Native.Nat.{_+_, _-_, _≤_}
 use native.Mathlib.Omega.{arith}
 use mathlib.Core.Path.{refl}
 use Rattle.ring.specs.Work.{part}
-use Rattle.ring.proofs.Work.{Writing, writing-none, writing-more, writing-all}
+use Rattle.ring.proofs.Work.{Writing, writing-none, writing-more, writing-apart, writing-all}
 use Rattle.ring.proofs.copy.Statement.{statement}
 use Rattle.ring.proofs.copy.Tie as tie
 
 abbrev Inv-loop : tie.InvT-loop
-Inv-loop to₀ at work from n k₀ to k = (k ≤ n) × Writing at k (part work from) to₀ to
+Inv-loop work₀ to from n k₀ work k = (k ≤ n) × Writing to k (part work₀ from) work₀ work
 
 abbrev μ-loop : tie.MeasureT-loop
-μ-loop to₀ at work from n k₀ to k = n - k
+μ-loop work₀ to from n k₀ work k = n - k
 
 loop-holds : tie.Need-loop-holds Inv-loop μ-loop
 loop-holds c = (omega arith, writing-none _ _ _)
 
-add-to : tie.Need-add-to Inv-loop μ-loop
-add-to c = omega arith
+add-work : tie.Need-add-work Inv-loop μ-loop
+add-work c = omega arith
 
-mul-to : tie.Need-mul-to Inv-loop μ-loop
-mul-to c = omega arith
+mul-work : tie.Need-mul-work Inv-loop μ-loop
+mul-work c = omega arith
 
-shared-slice-read-to : tie.Need-shared-slice-read-to Inv-loop μ-loop
-shared-slice-read-to c = omega arith
+slice-read-work : tie.Need-slice-read-work Inv-loop μ-loop
+slice-read-work c = omega arith
 
-cast-to : tie.Need-cast-to Inv-loop μ-loop
-cast-to c = omega (arith, c .shared-slice-known .given (c .before .before .before .args .from + c .before .before .loop .k))
+add-work-2 : tie.Need-add-work-2 Inv-loop μ-loop
+add-work-2 c = omega arith
 
-add-to-2 : tie.Need-add-to-2 Inv-loop μ-loop
-add-to-2 c = omega arith
+mul-work-2 : tie.Need-mul-work-2 Inv-loop μ-loop
+mul-work-2 c = omega arith
 
-mul-to-2 : tie.Need-mul-to-2 Inv-loop μ-loop
-mul-to-2 c = omega arith
-
-slice-write-to : tie.Need-slice-write-to Inv-loop μ-loop
-slice-write-to c = omega arith
+slice-write-work : tie.Need-slice-write-work Inv-loop μ-loop
+slice-write-work c = omega arith
 
 add-k : tie.Need-add-k Inv-loop μ-loop
 add-k c = omega arith
@@ -45,10 +42,13 @@ loop-less : tie.Need-loop-less Inv-loop μ-loop
 loop-less c = omega arith
 
 loop-again : tie.Need-loop-again Inv-loop μ-loop
-loop-again c = (omega arith, writing-more (c .before .before .loop .inv .1) refl (omega arith) refl)
+loop-again c =
+    let w = c .before .before .loop .inv .1 in
+    let start = c .before .before .before in
+    (omega arith, writing-more w refl (omega arith) (writing-apart (start .args .from) (start .args .n) w (omega arith) (start .pre .2) (c .before .loop-test .taken)))
 
 same-length : tie.Need-same-length Inv-loop μ-loop
-same-length c = omega arith
+same-length c = c .before .loop .inv .1 .as-long
 
 returns : tie.Need-returns Inv-loop μ-loop
 returns c = writing-all (c .before .loop .inv .1) (omega arith)
@@ -60,13 +60,12 @@ copy-spec =
     Inv-loop
     μ-loop
     loop-holds
-    add-to
-    mul-to
-    shared-slice-read-to
-    cast-to
-    add-to-2
-    mul-to-2
-    slice-write-to
+    add-work
+    mul-work
+    slice-read-work
+    add-work-2
+    mul-work-2
+    slice-write-work
     add-k
     loop-less
     loop-again

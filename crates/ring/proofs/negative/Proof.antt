@@ -2,9 +2,8 @@
 -- Assumes nothing.
 use native.Mathlib.Omega.{arith}
 use borrow.Author.Needs.{needs}
-use native.Mathlib.Nat.{mod-eq-of-lt}
+use native.Mathlib.Nat.{mod-eq-of-lt, mod-self, sub-zero}
 use mathlib.Core.Path.{sym}
-use Rattle.ring.proofs.Bounds.{negated-zero}
 use Rattle.ring.proofs.negative.Statement.{statement}
 use Rattle.ring.proofs.negative.Tie as tie
 
@@ -12,7 +11,7 @@ sub-result : tie.Need-sub-result
 sub-result c = search needs
 
 returns : tie.Need-returns
-returns c = negated-zero (c .before .args .q) (c .if1 .taken)
+returns c = rw (c .if1 .taken, sub-zero) (sym (mod-self (c .before .args .q)))
 
 returns-2 : tie.Need-returns-2
 returns-2 c = sym (mod-eq-of-lt (omega arith))

@@ -3,6 +3,7 @@
 use Prim.Native.Nat.{ℕ, _+_, _*_, _%_, _≤_, _<_}
 use native.Mathlib.Omega.{arith}
 use mathlib.Core.Path.{_≡_, sym, _∙_, subst}
+use mathlib.Core.Logic.{inl}
 use borrow.Author.Needs.{needs}
 use lib.ListN.{length}
 use Rattle.definitions.specs.Ring.{InRing, conv}
@@ -98,11 +99,16 @@ both c =
     (spare-product (a .n) (a .work .now) (p .0 .0 .room) (added (c .before .before .before .before)) (a .q) ((2 + a .j) * a .n + a .n) (a .n) _ h (omega arith) (c .multiply-add-small2 .ensures))
     (λ k l. rw (← next (a .n) (a .j)) (two-products (a .q) _ _ _))
 
-keep-requires : tie.Need-keep-requires
-keep-requires c κs =
+mul-copy : tie.Need-mul-copy
+mul-copy c = omega arith
+
+copy-requires : tie.Need-copy-requires
+copy-requires c κs =
     let a = c .before .before .before .before .before .before .before .before .before .before .before .before .before .before .before .args in
     let p = c .before .before .before .before .before .before .before .before .before .before .before .before .before .before .before .pre in
-    (p .0 .0 .most, both (c .before .before .before) .as-long ∙ p .0 .0 .room, omega (arith, room (a .n) (a .j) (p .0 .3)))
+    let h : (2 + a .j) * a .n + a .n ≤ 7 * a .n = omega (arith, room (a .n) (a .j) (p .0 .3)) in
+    let e : length (c .before .before .before .multiply-add-small2 .last .0) ≡ 8 * a .n = both (c .before .before .before) .as-long ∙ p .0 .0 .room in
+    (omega arith, omega arith, inl h)
 
 same-length : tie.Need-same-length
 same-length c = search needs
@@ -112,7 +118,7 @@ returns c =
     let a = c .before .before .before .before .before .before .before .before .before .before .before .before .before .before .before .before .before .before .args in
     let p = c .before .before .before .before .before .before .before .before .before .before .before .before .before .before .before .before .before .before .pre in
     let h : (2 + a .j) * a .n + a .n + a .n ≤ 7 * a .n = room (a .n) (a .j) (p .0 .3) in
-    spare-kept (a .n) (a .work .now) (p .0 .0 .room) (both (c .before .before .before .before .before .before)) ((2 + a .j) * a .n) _ (omega arith) (c .before .before .keep .ensures)
+    spare-kept (a .n) (a .work .now) (p .0 .0 .room) (both (c .before .before .before .before .before .before)) ((2 + a .j) * a .n) _ (omega arith) (c .before .before .copy .ensures)
 
 pub fold-last-spec : {M : Type 1} → statement M
 fold-last-spec =
@@ -127,6 +133,7 @@ fold-last-spec =
     add-multiply-add-small
     mul-multiply-add-small-2
     multiply-add-small-requires-2
-    keep-requires
+    mul-copy
+    copy-requires
     same-length
     returns)

@@ -3,6 +3,7 @@
 use Prim.Native.Nat.{ℕ, _+_, _*_, _%_, _≤_, _<_}
 use native.Mathlib.Omega.{arith}
 use mathlib.Core.Path.{_≡_, sym, _∙_}
+use mathlib.Core.Logic.{inl}
 use borrow.Author.Needs.{needs}
 use lib.ListN.{length}
 use Rattle.definitions.specs.Ring.{conv}
@@ -57,11 +58,16 @@ added c =
     let p = c .before .before .before .before .before .before .before .before .pre in
     spare-product (a .n) (a .work .now) (p .0 .0 .room) (loaded (c .before .before .before .before)) (a .q) ((2 + a .j) * a .n) 0 _ (room (a .n) (a .j) (p .0 .3)) (omega arith) (c .multiply-add-small .ensures)
 
-keep-requires : tie.Need-keep-requires
-keep-requires c κs =
+mul-copy : tie.Need-mul-copy
+mul-copy c = omega arith
+
+copy-requires : tie.Need-copy-requires
+copy-requires c κs =
     let a = c .before .before .before .before .before .before .before .before .before .before .before .args in
     let p = c .before .before .before .before .before .before .before .before .before .before .before .pre in
-    (p .0 .0 .most, added (c .before .before .before) .as-long ∙ p .0 .0 .room, room (a .n) (a .j) (p .0 .3))
+    let h : (2 + a .j) * a .n + a .n ≤ 7 * a .n = room (a .n) (a .j) (p .0 .3) in
+    let e : length (c .before .before .before .multiply-add-small .last .0) ≡ 8 * a .n = added (c .before .before .before) .as-long ∙ p .0 .0 .room in
+    (omega arith, omega arith, inl h)
 
 same-length : tie.Need-same-length
 same-length c = search needs
@@ -70,9 +76,9 @@ returns : tie.Need-returns
 returns c =
     let a = c .before .before .before .before .before .before .before .before .before .before .before .before .before .before .args in
     let p = c .before .before .before .before .before .before .before .before .before .before .before .before .before .before .pre in
-    spare-kept (a .n) (a .work .now) (p .0 .0 .room) (added (c .before .before .before .before .before .before)) ((2 + a .j) * a .n) _ (room (a .n) (a .j) (p .0 .3)) (c .before .before .keep .ensures)
+    spare-kept (a .n) (a .work .now) (p .0 .0 .room) (added (c .before .before .before .before .before .before)) ((2 + a .j) * a .n) _ (room (a .n) (a .j) (p .0 .3)) (c .before .before .copy .ensures)
 
 pub fold-term-spec : {M : Type 1} → statement M
 fold-term-spec =
     tie.close
-    (tie.spec mul-load load-requires add-at mul-at mul-multiply-add-small multiply-add-small-requires keep-requires same-length returns)
+    (tie.spec mul-load load-requires add-at mul-at mul-multiply-add-small multiply-add-small-requires mul-copy copy-requires same-length returns)

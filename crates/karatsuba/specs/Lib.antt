@@ -1,0 +1,2 @@
+-- What a product by Karatsuba leaves behind.
+pub mod Products

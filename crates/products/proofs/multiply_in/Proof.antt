@@ -1,0 +1,82 @@
+-- `products::multiply_in` meets its contract: the factors are loaded reduced and filled up with 0, and their product is folded.
+-- Assumes nothing.
+use native.Mathlib.Omega.{arith}
+use borrow.Author.Needs.{needs}
+use Rattle.ring.specs.Work.{part}
+use Rattle.products.proofs.Loading.{Loaded, loaded-both, loaded-below, reduced-below}
+use Rattle.products.proofs.Folding.{product-added}
+use Rattle.products.proofs.multiply_in.Statement.{statement}
+use Rattle.products.proofs.multiply_in.Tie as tie
+
+-- the two factors in the words
+factors : (c : tie.After-load2) → let a = c .before .before .before .before .before .before .before .before .before .before .before .args in Loaded (a .n) (a .h .m) (a .q) (part (a .work .now) (a .a)) (part (c .load2 .last .0) 0) × Loaded (a .n) (a .h .m) (a .q) (part (a .work .now) (a .b)) (part (c .load2 .last .0) (a .h .m))
+factors c =
+    let start = c .before .before .before .before .before .before .before .before .before .before .before in
+    let a = start .args in
+    let load = c .before .before .before .before .before .load in
+    loaded-both (a .n) (a .h .m) (a .q) (part (a .work .now) (a .a)) (part (a .work .now) (a .b)) (a .words .now) (load .last .0) (c .load2 .last .0) (start .pre .1 .0 .0 .enough) (start .pre .1 .0 .1) (start .pre .1 .0 .3) (load .ensures) (c .load2 .ensures)
+
+load-requires : tie.Need-load-requires
+load-requires c κs = search needs
+
+load-requires-2 : tie.Need-load-requires-2
+load-requires-2 c κs = search needs
+
+reciprocal-requires : tie.Need-reciprocal-requires
+reciprocal-requires c κs = search needs
+
+multiply-requires : tie.Need-multiply-requires
+multiply-requires c κs =
+    let start = c .before .before .before .before .before .before .before .before .before .before .before .before .before .before .before .before in
+    let a = start .args in
+    let fit = start .pre .1 .0 .0 in
+    let load = c .before .before .before .before .before .before .before .before .before .before .load in
+    let load2 = c .before .before .before .before .before .load2 in
+    let both = factors (c .before .before .before .before .before) in (
+      (fit .whole, fit .short, fit .most, omega (arith, load .kept, load2 .kept, start), start .pre .1 .0 .2),
+      (
+        (start .pre .1 .1 .1, start .pre .0 .3, start .pre .0 .4, c .before .before .reciprocal .ensures),
+        (
+          loaded-below (both .0) (start .pre .0 .3) (reduced-below (a .n) (part (a .work .now) (a .a)) (start .pre .0 .3)),
+          loaded-below (both .1) (start .pre .1 .1 .0) (start .pre .1 .1 .2),
+        ),
+      ),
+    )
+
+fold-requires : tie.Need-fold-requires
+fold-requires c κs =
+    let start = c .before .before .before .before .before .before .before .before .before .before .before .before .before .before .before .before .before .before .before .before .before .before .before in
+    let fit = start .pre .1 .0 .0 in
+    (start .pre .0 .2, omega (arith, c .before .before .before .before .before .before .multiply .kept, fit .enough, start .pre .1 .0 .2), start .pre .0 .3, start .pre .0 .4, c .before .before .before .before .before .before .before .before .before .reciprocal .ensures)
+
+same-length : tie.Need-same-length
+same-length c = search needs
+
+same-length-2 : tie.Need-same-length-2
+same-length-2 c = search needs
+
+same-length-3 : tie.Need-same-length-3
+same-length-3 c = search needs
+
+returns : tie.Need-returns
+returns c =
+    let start = c .before .before .before .before .before .before .before .before .before .before .before .before .before .before .before .before .before .before .before .before .before .before .before .before .before .before in
+    let a = start .args in
+    let loaded = c .before .before .before .before .before .before .before .before .before .before .before .before .before .before .before in
+    let multiply = c .before .before .before .before .before .before .before .before .before .multiply in
+    let words = loaded .load2 .last .0 in
+    product-added (a .n) (a .h .m) (a .q) (part (a .work .now) (a .a)) (part (a .work .now) (a .b)) (part words 0) (part words (a .h .m)) (multiply .last .1 .1 .1 .1 .1 .1 .1 .0) (start .pre .1 .0 .0 .enough) (factors loaded .0) (factors loaded .1) (multiply .ensures .same) (a .c) (a .work .now) (c .before .before .fold .last .0) (c .before .before .fold .ensures)
+
+pub multiply-in-spec : {M : Type 1} → statement M
+multiply-in-spec =
+    tie.close
+    (tie.spec
+    load-requires
+    load-requires-2
+    reciprocal-requires
+    multiply-requires
+    fold-requires
+    same-length
+    same-length-2
+    same-length-3
+    returns)

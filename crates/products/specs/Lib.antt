@@ -1,0 +1,2 @@
+-- How a product is halved.
+pub mod Halvings

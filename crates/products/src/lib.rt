@@ -1,0 +1,162 @@
+// Products in R_q over the work words (01, "Ring, monomials, octets"): the product of two polynomials by Karatsuba, in arrays of its
+// own, then t^n = 1 and one reduction. Nothing is refused: callers keep parts within the words and coefficients below q. Contracts
+// cite ring's productAdded; those of the steps also specs/Halvings.antt.
+ghost use mathlib.Core.Path.{_≡_};
+ghost use Prim.Native.Nat.{_+_, _*_, _^_, _%_, _/_, _<_, _≤_};
+ghost use lib.ListN.{length, getD};
+ghost use Rattle.definitions.specs.Sequences.{tabulate};
+ghost use Rattle.definitions.specs.Ring.{InRing, elementOf, modulo};
+ghost use Rattle.ring.specs.Work.{part, written, productAdded};
+ghost use Rattle.products.specs.Halvings.{Fit};
+
+// How a product of n coefficients is halved: so many times, down to leaves of at most 80; m is leaf times 2^levels.
+struct Halving {
+    levels: usize,
+    leaf: usize,
+    m: usize,
+}
+
+// To so many leaves.
+fn halved(n: usize, levels: usize, leaves: usize) -> Halving
+    requires { ⌜ (0 < leaves) × (leaves ≤ 64) × (leaves ≡ 2 ^ levels) × (4096 % leaves ≡ 0) × (n ≤ 80 * leaves) × (n ≤ 4096) ⌝ }
+    ensures { λ r. ⌜ Fit n r ⌝ }
+{
+    let leaf = (n + (leaves - 1)) / leaves;
+    Halving {
+        levels: levels,
+        leaf: leaf,
+        m: leaf * leaves,
+    }
+}
+
+// To the fewest leaves.
+fn split(n: usize) -> Halving
+    requires { ⌜ n ≤ 4096 ⌝ }
+    ensures { λ r. ⌜ Fit n r ⌝ }
+{
+    if n <= 80 {
+        return halved(n, 0, 1);
+    }
+    if n <= 160 {
+        return halved(n, 1, 2);
+    }
+    if n <= 320 {
+        return halved(n, 2, 4);
+    }
+    if n <= 640 {
+        return halved(n, 3, 8);
+    }
+    if n <= 1280 {
+        return halved(n, 4, 16);
+    }
+    if n <= 2560 {
+        return halved(n, 5, 32);
+    }
+    halved(n, 6, 64)
+}
+
+// The element at from, reduced, to a place of other words.
+fn load(words: &mut [u32], at: usize, work: &[u32], from: usize, n: usize, q: u32)
+    requires { ⌜ (at + n ≤ length (now words)) × (from + n ≤ length (now work)) × (0 < q) ⌝ }
+    ensures { λ _. ⌜ now (words .exit) ≡ written at (tabulate n (λ k. part (now (work .entry)) from k % q)) (now (words .entry)) ⌝ }
+{
+    let mut k = 0;
+    while k < n {
+        let x = work[from + k];
+        words[at + k] = if x < q { x } else { x % q };
+        k += 1;
+    }
+}
+
+// The sum of three coefficients modulo q.
+fn folded(x: u32, y: u32, z: u32, q: u32, reciprocal: u64) -> u32
+    requires { ⌜ (0 < q) × (q < 2147483648) × (reciprocal ≡ 18446744073709551615 / q) ⌝ }
+    ensures { λ r. ⌜ r ≡ (x + y + z) % q ⌝ }
+{
+    let s = x as u64 + y as u64 + z as u64;
+    reduction::remainder(s, q, reciprocal)
+}
+
+// t^n = 1: the places from n on come to those from 0 on, and c is added.
+fn fold(work: &mut [u32], c: usize, n: usize, q: u32, reciprocal: u64, product: &[u32])
+    requires { ⌜ (c + n ≤ length (now work)) × (n + n ≤ length (now product)) × (0 < q) × (q < 2147483648) × (reciprocal ≡ 18446744073709551615 / q) ⌝ }
+    ensures { λ _. ⌜ now (work .exit) ≡ written c (tabulate n (λ k. (getD (now (product .entry)) k 0 + getD (now (product .entry)) (n + k) 0 + part (now (work .entry)) c k) % q)) (now (work .entry)) ⌝ }
+{
+    let mut k = 0;
+    while k < n {
+        work[c + k] = folded(product[k], product[n + k], work[c + k], q, reciprocal);
+        k += 1;
+    }
+}
+
+// In place c := a × b + c in R_q, in words of other arrays; top is a bound of b's coefficients modulo q.
+fn multiply_in(
+    work: &mut [u32],
+    a: usize,
+    b: usize,
+    c: usize,
+    n: usize,
+    q: u32,
+    top: u32,
+    h: Halving,
+    words: &mut [u32],
+    product: &mut [u32],
+)
+    requires { ⌜ (a + n ≤ length (now work)) × (b + n ≤ length (now work)) × (c + n ≤ length (now work)) × (0 < q) × (q < 2147483648) ⌝ }
+    requires { ⌜ Fit n h × (4 * h .m ≤ length (now words)) × (4 * h .m ≤ length (now product)) × InRing 1 (4 * h .m) (elementOf (now words)) ⌝ }
+    requires { ⌜ (0 < top) × (top ≤ q) × InRing top n (modulo q (part (now work) b)) ⌝ }
+    ensures { λ _. ⌜ now (work .exit) ≡ productAdded n q a b c (now (work .entry)) ⌝ }
+{
+    let m = h.m;
+    let levels = h.levels;
+    let leaf = h.leaf;
+    load(words, 0, work, a, n, q);
+    load(words, m, work, b, n, q);
+    let reciprocal = reduction::reciprocal(q);
+    karatsuba::multiply(words, levels, leaf, m, q, top, reciprocal, product);
+    fold(work, c, n, q, reciprocal, product);
+}
+
+// The same in arrays of the least of three sizes: what they are cleared by is then little beside the product.
+fn multiply_below(work: &mut [u32], a: usize, b: usize, c: usize, n: usize, q: u32, top: u32)
+    requires { ⌜ (a + n ≤ length (now work)) × (b + n ≤ length (now work)) × (c + n ≤ length (now work)) × (n ≤ 4096) × (0 < q) × (q < 2147483648) ⌝ }
+    requires { ⌜ (0 < top) × (top ≤ q) × InRing top n (modulo q (part (now work) b)) ⌝ }
+    ensures { λ _. ⌜ now (work .exit) ≡ productAdded n q a b c (now (work .entry)) ⌝ }
+{
+    let h = split(n);
+    let m = h.m;
+    if m <= 80 {
+        let mut words = [0u32; 320];
+        let mut product = [0u32; 320];
+        multiply_in(work, a, b, c, n, q, top, h, &mut words, &mut product);
+        return;
+    }
+    if m <= 1280 {
+        let mut words = [0u32; 5120];
+        let mut product = [0u32; 5120];
+        multiply_in(work, a, b, c, n, q, top, h, &mut words, &mut product);
+        return;
+    }
+    let mut words = [0u32; 16384];
+    let mut product = [0u32; 16384];
+    multiply_in(work, a, b, c, n, q, top, h, &mut words, &mut product);
+}
+
+// In place c := a × b + c in R_q; all other words are kept.
+pub fn multiply_add(work: &mut [u32], a: usize, b: usize, c: usize, n: usize, q: u32)
+    requires { ⌜ (a + n ≤ length (now work)) × (b + n ≤ length (now work)) × (c + n ≤ length (now work)) × (n ≤ 4096) × (0 < q) × (q < 2147483648) ⌝ }
+    requires { ⌜ InRing q n (part (now work) a) × InRing q n (part (now work) b) ⌝ }
+    ensures { λ _. ⌜ now (work .exit) ≡ productAdded n q a b c (now (work .entry)) ⌝ }
+{
+    multiply_below(work, a, b, c, n, q, q);
+}
+
+// As multiply_add, where the coefficients of b are below 16.
+pub fn multiply_add_small(work: &mut [u32], a: usize, b: usize, c: usize, n: usize, q: u32)
+    requires { ⌜ (a + n ≤ length (now work)) × (b + n ≤ length (now work)) × (c + n ≤ length (now work)) × (n ≤ 4096) × (0 < q) × (q < 2147483648) ⌝ }
+    requires { ⌜ InRing q n (part (now work) a) × InRing 16 n (part (now work) b) ⌝ }
+    ensures { λ _. ⌜ now (work .exit) ≡ productAdded n q a b c (now (work .entry)) ⌝ }
+{
+    let top = if q < 16 { q } else { 16 };
+    multiply_below(work, a, b, c, n, q, top);
+}

@@ -1,0 +1,3 @@
+-- Laws of the sum by rows.
+pub mod Bounds
+pub mod Rows

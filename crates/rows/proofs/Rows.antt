@@ -1,0 +1,257 @@
+-- Why the rows sum to the product: row i holds a_i × b_(k - i) at place k, the rows past the last hold nothing, and b between seven zeros and
+-- seven more shows each of eight rows its own part of it.
+-- Assumes nothing.
+use Prim.Native.Nat.{ℕ, zero, suc, _+_, _-_, _*_, _%_, _/_, _≤_, _<_}
+use native.Mathlib.Decide.{decLt, decLe, ℕ-discrete}
+use native.Mathlib.Nat.{add-zero, zero-add, zero-mul, mul-zero, sub-zero, add-assoc, mul-le-mul, le-of-lt}
+use native.Mathlib.Omega.{arith}
+use mathlib.Core.Path.{_≡_, refl, sym, _∙_, ap, ap₂, subst}
+use mathlib.Core.List.{List}
+use lib.Dec.{lit<}
+use borrow.Author.Tests.{lt-ltb, le-ltb, le-leb, lt-leb}
+use lib.ListN.{length, getD, replicate, length-replicate}
+use Rattle.definitions.specs.Sequences.{sum, tabulate, sameNumber}
+use Rattle.definitions.specs.Ring.{Element, InRing, elementOf}
+use Rattle.definitions.proofs.Sums.{sameNumber-self, sameNumber-other, sum-cong, sum-append, sum-zero, sum-le, sum-const, sum-pick, sum-pick-outside, length-tabulate, tabulate-cong}
+use Rattle.ring.specs.Work.{part, written}
+use Rattle.ring.specs.Linear.{linear}
+use Rattle.ring.proofs.Work.{part-written, getD-written-before, getD-written-after}
+use Rattle.rows.specs.declared.Factors.{Factors}
+use Rattle.rows.specs.Rows.{padded, shifted, rowTerm, fourRows, eightRows, factorsFrom, rowSum, Surrounded, Operands, Added, Halves}
+use Rattle.rows.proofs.Bounds.{product-small, eighty-small, Summed, summed-none, summed-more, summed-halves}
+
+-- ---- a polynomial followed by zeros
+padded-inside : (m : ℕ) (a : Element) {i : ℕ} → i < m → padded m a i ≡ a i
+unfolding padded
+padded-inside m a {i} l = rw (lt-ltb i m l)
+
+padded-outside : (m : ℕ) (a : Element) {i : ℕ} → m ≤ i → padded m a i ≡ 0
+unfolding padded
+padded-outside m a {i} l = rw (le-ltb i m l)
+
+padded-below : (m : ℕ) (a : Element) {q : ℕ} → InRing q m a → 0 < q → (i : ℕ) → padded m a i < q
+padded-below m a h l i =
+    elim (decLt i m) [ yes s ↦ rw (padded-inside m a s) (h i s) | no g ↦ rw (padded-outside m a {i = i} (omega arith)) l ]
+
+padded-pick : (m : ℕ) (b : Element) (p : ℕ) → sum m (λ j. b j * sameNumber j p) ≡ padded m b p
+padded-pick m b p =
+    elim (decLt p m) [ yes s ↦ sum-pick m b s ∙ sym (padded-inside m b s) | no g ↦ sum-pick-outside m b (omega arith) ∙ sym (padded-outside m b {i = p} (omega arith)) ]
+
+-- ---- the same, shifted
+shifted-inside : (m : ℕ) (b : Element) {i k : ℕ} → i ≤ k → shifted m b i k ≡ padded m b (k - i)
+unfolding shifted
+shifted-inside m b {i} {k} l = rw (le-leb i k l)
+
+shifted-before : (m : ℕ) (b : Element) {i k : ℕ} → k < i → shifted m b i k ≡ 0
+unfolding shifted
+shifted-before m b {i} {k} l = rw (lt-leb i k l)
+
+shifted-after : (m : ℕ) (b : Element) (i : ℕ) {k : ℕ} → i + m ≤ k → shifted m b i k ≡ 0
+shifted-after m b i {k} l = shifted-inside m b {i = i} {k = k} (omega arith) ∙ padded-outside m b (omega arith)
+
+shifted-below : (m : ℕ) (b : Element) {q : ℕ} → InRing q m b → 0 < q → (i k : ℕ) → shifted m b i k < q
+shifted-below m b h l i k =
+    elim (decLe i k) [ yes s ↦ rw (shifted-inside m b s) (padded-below m b h l (k - i)) | no g ↦ rw (shifted-before m b {i = i} {k = k} (omega arith)) l ]
+
+shifted-start : (m : ℕ) (b : Element) (k : ℕ) → shifted m b 0 k ≡ padded m b k
+shifted-start m b k = shifted-inside m b {i = 0} {k = k} (omega arith) ∙ ap (padded m b) (sub-zero k)
+
+-- only how far k is from i counts
+shifted-along : (m : ℕ) (b : Element) (i k j p : ℕ) → k + j ≡ p + i → shifted m b i k ≡ shifted m b j p
+shifted-along m b i k j p e =
+    let d : k - i ≡ p - j = omega arith in
+    elim (decLe i k) [
+      | yes s ↦ shifted-inside m b s ∙ ap (padded m b) d ∙ sym (shifted-inside m b {i = j} {k = p} (omega arith))
+      | no g ↦ shifted-before m b {i = i} {k = k} (omega arith) ∙ sym (shifted-before m b {i = j} {k = p} (omega arith))
+    ]
+
+sameNumber-along : (i j k : ℕ) → i ≤ k → sameNumber (i + j) k ≡ sameNumber j (k - i)
+sameNumber-along i j k l =
+    elim (ℕ-discrete j (k - i)) [
+      | yes e ↦
+          let f : i + j ≡ k = omega arith in
+          rw (f, e) (sameNumber-self k ∙ sym (sameNumber-self (k - i)))
+      | no g ↦ sameNumber-other {j = i + j} {k = k} (λ e. g (omega arith)) ∙ sym (sameNumber-other g)
+    ]
+
+shifted-pick : (m : ℕ) (b : Element) (i k : ℕ) → sum m (λ j. b j * sameNumber (i + j) k) ≡ shifted m b i k
+shifted-pick m b i k =
+    elim (decLe i k) [
+      | yes s ↦ sum-cong m (λ j l. rw (sameNumber-along i j k s)) ∙ padded-pick m b (k - i) ∙ sym (shifted-inside m b s)
+      | no g ↦
+          sum-zero m (λ j l. rw (sameNumber-other {j = i + j} {k = k} (λ e. omega arith)) (mul-zero (b j)))
+          ∙ sym (shifted-before m b {i = i} {k = k} (omega arith))
+    ]
+
+-- ---- all rows
+linear-rows : (m : ℕ) (a b : Element) (k : ℕ) → linear m a b k ≡ sum m (rowTerm m a b k)
+unfolding linear rowTerm
+linear-rows m a b k = sum-cong m (λ i l. ap₂ (λ (x y : ℕ). x * y) (sym (padded-inside m a l)) (shifted-pick m b i k))
+
+-- rows past the last hold nothing
+sum-rows-past : (m : ℕ) (a b : Element) (k : ℕ) {i : ℕ} → m ≤ i → sum i (rowTerm m a b k) ≡ linear m a b k
+unfolding rowTerm
+sum-rows-past m a b k {i} h =
+    let e : i ≡ m + (i - m) = omega arith in
+    let none : sum (i - m) (λ j. rowTerm m a b k (m + j)) ≡ 0 =
+    sum-zero (i - m) (λ j l. rw (padded-outside m a {i = m + j} (omega arith)) (zero-mul (shifted m b (m + j) k)))
+    in
+    ap (λ (j : ℕ). sum j (rowTerm m a b k)) e
+    ∙ sum-append m (i - m) (rowTerm m a b k)
+    ∙ rw none (add-zero (sum m (rowTerm m a b k)) ∙ sym (linear-rows m a b k))
+
+-- some rows sum to no more than all
+sum-rows-le : (m : ℕ) (a b : Element) (k i : ℕ) → sum i (rowTerm m a b k) ≤ linear m a b k
+sum-rows-le m a b k i =
+    omega (arith, sum-append i m (rowTerm m a b k), sum-rows-past m a b k {i = i + m} (omega arith))
+
+sum-eight-rows : (m : ℕ) (a b : Element) (i k : ℕ) → sum (i + 8) (rowTerm m a b k) ≡ sum i (rowTerm m a b k) + eightRows (λ s. s) m a b i k
+unfolding sum fourRows
+sum-eight-rows m a b i k = sum-append i 8 (rowTerm m a b k) ∙ simp (add-zero, zero-add, add-assoc)
+
+-- where all sums fit a word
+pub linear-small : (m q top : ℕ) (a b : Element) → m ≤ 80 → q * top ≤ 230584300921369395 → InRing q m a → InRing top m b → (k : ℕ) → linear m a b k < 18446744073709551616
+unfolding rowTerm
+linear-small m q top a b few l h g k =
+    let bound : (i : ℕ) → i < m → rowTerm m a b k i ≤ q * top =
+    λ i s.
+    mul-le-mul (le-of-lt (padded-below m a h (omega (arith, h i s)) i)) (le-of-lt (shifted-below m b g (omega (arith, g i s)) i k))
+    in
+    omega (arith, linear-rows m a b k, sum-le m {g = λ i. q * top} bound, sum-const m (q * top), eighty-small few l)
+
+-- ---- four rows and eight
+row-term-none : (m : ℕ) (a b : Element) (i k : ℕ) → shifted m b i k ≡ 0 → rowTerm m a b k i ≡ 0
+unfolding rowTerm
+row-term-none m a b i k e = rw e (mul-zero (padded m a i))
+
+four-rows-none : (m : ℕ) (a b : Element) (i k : ℕ) → ((r : ℕ) → r ≤ 3 → shifted m b (i + r) k ≡ 0) → fourRows m a b i k ≡ 0
+unfolding fourRows
+four-rows-none m a b i k h =
+    let none : (r : ℕ) → r ≤ 3 → rowTerm m a b k (i + r) ≡ 0 = λ r l. row-term-none m a b (i + r) k (h r l) in
+    let first : rowTerm m a b k i ≡ 0 = rw add-zero at (none 0 (omega arith)) in
+    omega (arith, none 1 (omega arith), none 2 (omega arith), none 3 (omega arith))
+
+four-rows-before : (m : ℕ) (a b : Element) {i k : ℕ} → k < i → fourRows m a b i k ≡ 0
+four-rows-before m a b {i} {k} l = four-rows-none m a b i k (λ r s. shifted-before m b (omega arith))
+
+four-rows-after : (m : ℕ) (a b : Element) (i : ℕ) {k : ℕ} → i + (m + 3) ≤ k → fourRows m a b i k ≡ 0
+four-rows-after m a b i {k} l = four-rows-none m a b i k (λ r s. shifted-after m b (i + r) (omega arith))
+
+four-rows-small : (m : ℕ) (a b : Element) → InRing 2147483648 m a → InRing 2147483648 m b → (i k : ℕ) → fourRows m a b i k < 18446744073709551616
+unfolding fourRows rowTerm
+four-rows-small m a b h g i k =
+    let one : (j : ℕ) → padded m a j * shifted m b j k ≤ 4611686014132420609 =
+    λ j. product-small (padded-below m a h (lit< tt) j) (shifted-below m b g (lit< tt) j k)
+    in
+    omega (arith, one i, one (i + 1), one (i + 2), one (i + 3))
+
+-- what stands at each place of a list that was written over another
+written-at : (at n : ℕ) (f g : ℕ → ℕ) (old : List ℕ) → at + n ≤ length old → ((k : ℕ) → k < at → getD old k 0 ≡ g k) → ((k : ℕ) → k < n → f k ≡ g (at + k)) → ((k : ℕ) → at + n ≤ k → getD old k 0 ≡ g k) →
+    (k : ℕ) → getD (written at (tabulate n f) old) k 0 ≡ g k
+written-at at n f g old h front inside rest k =
+    let long = length-tabulate n f in
+    elim (decLt k at) [
+      | yes l ↦ getD-written-before at (tabulate n f) old (omega arith) l ∙ front k l
+      | no l ↦
+          elim (decLt k (at + n)) [
+            | yes s ↦
+                let j : ℕ = k - at in
+                let p : at + j ≡ k = omega arith in
+                subst (λ (x : ℕ). getD (written at (tabulate n f) old) x 0 ≡ g x) p
+                (part-written at n f old {k = j} (omega arith) (omega arith) ∙ inside j (omega arith))
+            | no s ↦ getD-written-after at (tabulate n f) old (omega arith) (omega arith) ∙ rest k (omega arith)
+          ]
+    ]
+
+-- eight rows, added at the places that they reach, are added everywhere
+pub rows-added : (g : ℕ → ℕ) → g 0 ≡ 0 → (m : ℕ) (a b : Element) (i : ℕ) (old : List ℕ) {new : List ℕ} → i + (m + 7) ≤ length old →
+    new ≡ written i (tabulate (m + 7) (λ k. part old i k + eightRows g m a b i (i + k))) old →
+    Added (eightRows g m a b i) old new
+rows-added g none m a b i old h e k =
+    let nothing : (j : ℕ) → fourRows m a b i j ≡ 0 → fourRows m a b (i + 4) j ≡ 0 → getD old j 0 ≡ getD old j 0 + eightRows g m a b i j =
+    λ j x y. rw (x, y, none) (sym (add-zero (getD old j 0)))
+    in
+    rw e (written-at i (m + 7) (λ j. part old i j + eightRows g m a b i (i + j)) (λ j. getD old j 0 + eightRows g m a b i j) old h
+    (λ j l. nothing j (four-rows-before m a b l) (four-rows-before m a b (omega arith)))
+    (λ j l. refl)
+    (λ j l. nothing j (four-rows-after m a b i (omega arith)) (four-rows-after m a b (i + 4) (omega arith)))
+    k)
+
+-- ---- b after seven zeros and before others
+four-rows-sum : (m : ℕ) (a b : Element) (row : List ℕ) → Surrounded m b row → (i h p : ℕ) → i + h ≡ p + 4 → rowSum (factorsFrom m a i) row h ≡ fourRows m a b i p
+unfolding rowSum factorsFrom fourRows rowTerm
+four-rows-sum m a b row around i h p e =
+    let at : (j r : ℕ) → r + j ≡ p + 7 → getD row j 0 ≡ shifted m b r p = λ j r d. around j ∙ shifted-along m b 7 j r p (omega arith) in
+    rw (at (h + 3) i (omega arith), at (h + 2) (i + 1) (omega arith), at (h + 1) (i + 2) (omega arith), at h (i + 3) (omega arith))
+
+factors-below : (m : ℕ) (a : Element) {q : ℕ} → InRing q m a → 0 < q → (i : ℕ) → (factorsFrom m a i .a0 < q) × (factorsFrom m a i .a1 < q) × (factorsFrom m a i .a2 < q) × (factorsFrom m a i .a3 < q)
+unfolding factorsFrom
+factors-below m a h l i = (padded-below m a h l i, padded-below m a h l (i + 1), padded-below m a h l (i + 2), padded-below m a h l (i + 3))
+
+-- what `row_sum` asks, and what it then sums
+module _ {m : ℕ} {words row : List ℕ} (o : Operands m words row) (i h : ℕ) {f : Factors} (e : f ≡ factorsFrom m (part words 0) i) where
+  pub row-sum-asked : h + 4 ≤ m + 14 → ((f .a0 < 2147483648) × (f .a1 < 2147483648) × (f .a2 < 2147483648) × (f .a3 < 2147483648)) × ((h + 4 ≤ length row) × ((j : ℕ) → getD row j 0 < 2147483648))
+  row-sum-asked l = (
+    rw e (factors-below m (part words 0) (o .first-small) (lit< tt) i),
+    (omega (arith, o .room), λ j. rw (o .surrounded j) (shifted-below m (part words m) (o .second-small) (lit< tt) 7 j)),
+  )
+
+  pub row-sum-rows : (p : ℕ) → i + h ≡ p + 4 → {s : ℕ} → s ≡ rowSum f row h → s ≡ fourRows m (part words 0) (part words m) i p
+  row-sum-rows p g d = d ∙ rw e (four-rows-sum m (part words 0) (part words m) row (o .surrounded) i h p g)
+
+zeros-at : (n k : ℕ) → elementOf (replicate n 0) k ≡ 0
+zeros-at zero k = refl
+zeros-at (suc n) zero = refl
+zeros-at (suc n) (suc k) = zeros-at n k
+
+pub surrounded-written : (m : ℕ) (b : Element) {row : List ℕ} → m ≤ 80 → row ≡ written 7 (tabulate m b) (replicate 96 0) → Surrounded m b row
+surrounded-written m b few e j =
+    rw e (written-at 7 m b (shifted m b 7) (replicate 96 0) (omega (arith, length-replicate {A = ℕ} 96 0))
+    (λ k l. zeros-at 96 k ∙ sym (shifted-before m b l))
+    (λ k l. sym (shifted-along m b 7 (7 + k) 0 k (omega arith) ∙ shifted-start m b k ∙ padded-inside m b l))
+    (λ k l. zeros-at 96 k ∙ sym (shifted-after m b 7 l))
+    j)
+
+-- ---- the rows so far, at every place: the loop over the rows
+pub record Rows (m : ℕ) (a b : Element) (i : ℕ) (low : List ℕ) : Type 0 where
+  pub sums : (k : ℕ) → getD low k 0 ≡ sum i (rowTerm m a b k)
+
+pub rows-none : {m : ℕ} {a b : Element} {low : List ℕ} → low ≡ replicate 168 0 → Rows m a b 0 low
+unfolding sum
+rows-none e = record { sums = λ k. rw e (zeros-at 168 k) }
+
+pub rows-more : {m : ℕ} {a b : Element} {i : ℕ} {low new : List ℕ} → Rows m a b i low → Added (eightRows (λ s. s) m a b i) low new → Rows m a b (i + 8) new
+rows-more {m} {a} {b} {i} r d = record { sums = λ k. d k ∙ rw (r .sums k) (sym (sum-eight-rows m a b i k)) }
+
+-- where the product fits a word, so do eight rows more
+pub rows-fit : {m : ℕ} {a b : Element} {i : ℕ} {low : List ℕ} → Rows m a b i low → (k : ℕ) → linear m a b k < 18446744073709551616 → getD low k 0 + eightRows (λ s. s) m a b i k < 18446744073709551616
+rows-fit {m} {a} {b} {i} r k l = omega (arith, r .sums k, sum-eight-rows m a b i k, sum-rows-le m a b k (i + 8))
+
+pub rows-all : {m : ℕ} {a b : Element} {i : ℕ} {low : List ℕ} → Rows m a b i low → m ≤ i → (k : ℕ) → getD low k 0 ≡ linear m a b k
+rows-all {m} {a} {b} r h k = r .sums k ∙ sum-rows-past m a b k h
+
+-- ---- the same of sums that are cut
+pub record CutRows (m : ℕ) (a b : Element) (i : ℕ) (low high : List ℕ) : Type 0 where
+  pub sums : (k : ℕ) → Summed i (sum i (rowTerm m a b k)) (getD low k 0) (getD high k 0)
+
+pub cut-rows-none : {m : ℕ} {a b : Element} {low high : List ℕ} → low ≡ replicate 168 0 → high ≡ replicate 168 0 → CutRows m a b 0 low high
+unfolding sum
+cut-rows-none d e = record { sums = λ k. rw (d, e, zeros-at 168 k) summed-none }
+
+pub cut-rows-more : {m : ℕ} {a b : Element} {i : ℕ} {low high low′ high′ : List ℕ} → CutRows m a b i low high → InRing 2147483648 m a → InRing 2147483648 m b →
+    Added (eightRows (λ s. s % 4398046511104) m a b i) low low′ → Added (eightRows (λ s. s / 4398046511104) m a b i) high high′ →
+    CutRows m a b (i + 8) low′ high′
+cut-rows-more {m} {a} {b} {i} r h g d e =
+    record {
+      sums =
+          λ k.
+          rw (d k, e k, sum-eight-rows m a b i k)
+          (summed-more (r .sums k) (four-rows-small m a b h g i k) (four-rows-small m a b h g (i + 4) k));
+    }
+
+pub cut-rows-all : {m : ℕ} {a b : Element} {i : ℕ} {low high : List ℕ} → CutRows m a b i low high → m ≤ i → i < 88 → (k : ℕ) → Halves (linear m a b k) (getD low k 0) (getD high k 0)
+cut-rows-all {m} {a} {b} r h l k = rw (← sum-rows-past m a b k h) (summed-halves (r .sums k) l)
+
+-- equal sums, reduced
+pub reduced-cong : (n q : ℕ) {f g : ℕ → ℕ} (old : List ℕ) → ((k : ℕ) → f k ≡ g k) → written 0 (tabulate n (λ k. f k % q)) old ≡ written 0 (tabulate n (λ k. g k % q)) old
+reduced-cong n q old h = ap (λ (l : List ℕ). written 0 l old) (tabulate-cong n (λ k l. ap (λ (x : ℕ). x % q) (h k)))

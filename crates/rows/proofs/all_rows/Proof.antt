@@ -1,0 +1,60 @@
+-- `rows::all_rows` meets its contract: after i rows each place holds the sum of the first i rows; rows past the last hold nothing.
+-- Assumes nothing.
+use native.Mathlib.Omega.{arith}
+use Prim.Native.Nat.{ℕ, _+_, _-_, _<_}
+use mathlib.Core.Path.{_≡_, ap, _∙_}
+use lib.ListN.{length, length-replicate}
+use Rattle.ring.specs.Work.{part}
+use Rattle.rows.proofs.Rows.{Rows, rows-none, rows-more, rows-fit, rows-all}
+use Rattle.rows.proofs.all_rows.Statement.{statement}
+use Rattle.rows.proofs.all_rows.Tie as tie
+
+abbrev Inv-loop : tie.InvT-loop
+Inv-loop low₀ words m row i₀ low i = (i < m + 8) × (length low₀ ≡ 168) × (length low ≡ 168) × Rows m (part words 0) (part words m) i low
+
+abbrev μ-loop : tie.MeasureT-loop
+μ-loop low₀ words m row i₀ low i = m - i
+
+loop-holds : tie.Need-loop-holds Inv-loop μ-loop
+loop-holds c =
+    let zeros = c .before .before .before .pre .0 .1 in
+    let long = ap length zeros ∙ length-replicate {A = ℕ} 168 0 in
+    (omega arith, long, long, rows-none zeros)
+
+add-rows-requires : tie.Need-add-rows-requires Inv-loop μ-loop
+add-rows-requires c κs =
+    let start = c .before .before .before .before .before .before in
+    let l = c .before .before .loop in
+    ((start .pre .0 .0, omega arith, omega arith), (λ k. rows-fit (l .inv .3) k (start .pre .1 k)))
+
+add-i : tie.Need-add-i Inv-loop μ-loop
+add-i c = omega arith
+
+loop-less : tie.Need-loop-less Inv-loop μ-loop
+loop-less c = omega arith
+
+loop-again : tie.Need-loop-again Inv-loop μ-loop
+loop-again c =
+    let call = c .before .before .add-rows in
+    let l = c .before .before .before .before .before .loop in
+    (omega arith, l .inv .1, omega (arith, call .kept), rows-more (l .inv .3) (call .ensures))
+
+same-length : tie.Need-same-length Inv-loop μ-loop
+same-length c = omega arith
+
+returns : tie.Need-returns Inv-loop μ-loop
+returns c = rows-all (c .before .loop .inv .3) (omega arith)
+
+pub all-rows-spec : {M : Type 1} → statement M
+all-rows-spec =
+    tie.close
+    (tie.spec
+    Inv-loop
+    μ-loop
+    loop-holds
+    add-rows-requires
+    add-i
+    loop-less
+    loop-again
+    same-length
+    returns)

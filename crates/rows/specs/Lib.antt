@@ -1,0 +1,2 @@
+-- How a product is summed by rows.
+pub mod Rows
