@@ -2,17 +2,17 @@
 -- reduced before and after.
 -- Assumes nothing.
 use Prim.Native.Nat.{ℕ, _+_, _-_, _*_, _%_, _≤_, _<_}
-use native.Mathlib.Nat.{add-zero, zero-add, zero-mul, mul-add, mod-eq-of-lt, add-mod-right}
+use native.Mathlib.Nat.{add-zero, zero-add, zero-mul, mul-add, mod-eq-of-lt, add-mod-right, mul-le-mul, le-of-lt}
 use native.Mathlib.Omega.{arith}
 use native.Mathlib.Decide.{decLt, ℕ-discrete}
 use mathlib.Core.Path.{_≡_, sym, _∙_, ap}
 use mathlib.Core.List.{List}
 use lib.ListN.{getD}
 use Rattle.definitions.specs.Sequences.{sum, sameNumber, tabulate}
-use Rattle.definitions.specs.Ring.{Element, conv}
+use Rattle.definitions.specs.Ring.{Element, InRing, conv}
 use Rattle.definitions.proofs.Sums.{sameNumber-self, sameNumber-other, sum-cong, sum-add, sum-zero, sum-append, tabulate-cong}
 use Rattle.definitions.proofs.Congruence.{Cong, cong-refl, cong-trans, cong-mod, cong-add}
-use Rattle.definitions.proofs.Ring.{conv-cong-modulo}
+use Rattle.definitions.proofs.Ring.{conv-cong-modulo, conv-le}
 use Rattle.ring.specs.Work.{part, written}
 use Rattle.ring.specs.Linear.{linear}
 use Rattle.products.proofs.Loading.{Loaded}
@@ -82,3 +82,17 @@ module _ (n m q : ℕ) (a b f g : Element) (p : List ℕ) (fits : n ≤ m) (left
 
   pub product-added : (at : ℕ) (old new : List ℕ) → new ≡ written at (tabulate n (λ k. (getD p k 0 + getD p (n + k) 0 + part old at k) % q)) old → new ≡ written at (tabulate n (λ k. (conv n a b k + part old at k) % q)) old
   product-added at old new e = e ∙ ap (λ (l : List ℕ). written at l old) (tabulate-cong n (λ k l. product-folded (part old at k) l))
+
+-- ---- sums that are not reduced
+module _ (n q : ℕ) (a b : Element) (low : List ℕ) (same : (k : ℕ) → getD low k 0 ≡ linear n a b k) where
+  sums-folded : {k : ℕ} → k < n → getD low k 0 + getD low (n + k) 0 ≡ conv n a b k
+  sums-folded {k} l = rw (same k, same (n + k)) (sym (conv-linear n a b l))
+
+  -- they leave room for a word of 32 bits
+  pub sums-small : {top : ℕ} → n ≤ 80 → q * top ≤ 230584300867682304 → InRing q n a → InRing top n b → (k : ℕ) → k < n → getD low k 0 + getD low (n + k) 0 ≤ 18446744069414584320
+  sums-small {top} few h x y k l =
+      let most : n * (q * top) ≤ 18446744069414584320 = mul-le-mul few h in
+      omega (arith, sums-folded l, conv-le n q top a b (λ i s. le-of-lt (x i s)) (λ i s. le-of-lt (y i s)) k)
+
+  pub sums-added : (at : ℕ) (old new : List ℕ) → new ≡ written at (tabulate n (λ k. (getD low k 0 + getD low (n + k) 0 + part old at k) % q)) old → new ≡ written at (tabulate n (λ k. (conv n a b k + part old at k) % q)) old
+  sums-added at old new e = e ∙ ap (λ (l : List ℕ). written at l old) (tabulate-cong n (λ k l. ap (λ (x : ℕ). (x + part old at k) % q) (sums-folded l)))

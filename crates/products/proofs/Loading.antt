@@ -3,19 +3,19 @@
 --   Loaded           the first n of m coefficients are an element's modulo q, the others 0
 -- Assumes nothing.
 use Prim.Native.Nat.{ℕ, _+_, _*_, _%_, _≤_, _<_, zero-le}
-use native.Mathlib.Nat.{mod-lt, mod-le, lt-of-le-of-lt, lt-of-lt-of-le}
+use native.Mathlib.Nat.{mod-lt, mod-le, mod-eq-of-lt, lt-of-le-of-lt, lt-of-lt-of-le}
 use native.Mathlib.Omega.{arith}
 use native.Mathlib.Decide.{decLt}
-use mathlib.Core.Path.{_≡_, _∙_, ap}
+use mathlib.Core.Path.{_≡_, sym, _∙_, ap}
 use mathlib.Core.List.{List}
 use lib.Arith.{lt-one}
 use lib.Dec.{lit<}
 use lib.ListN.{length, getD, replicate, getD-replicate}
 use Rattle.definitions.specs.Sequences.{tabulate}
 use Rattle.definitions.specs.Ring.{Element, InRing, elementOf, modulo}
-use Rattle.definitions.proofs.Sums.{length-tabulate}
+use Rattle.definitions.proofs.Sums.{length-tabulate, tabulate-cong}
 use Rattle.ring.specs.Work.{part, written}
-use Rattle.ring.proofs.Work.{part-written, length-written-tabulate, getD-written-before, getD-written-after}
+use Rattle.ring.proofs.Work.{part-written, written-written, length-written-tabulate, getD-written-before, getD-written-after}
 
 pub record Loaded (n m q : ℕ) (a f : Element) : Type 0 where
   pub inside : (k : ℕ) → k < n → f k ≡ a k % q
@@ -35,6 +35,19 @@ modulo-below q a h k l = lt-of-le-of-lt (mod-le (a k) q) (h k l)
 
 pub zeros-below : (m : ℕ) {n : ℕ} → n ≤ m → InRing 1 n (elementOf (replicate m 0))
 zeros-below m h k l = rw (getD-replicate {A = ℕ} m k 0 0 (lt-of-lt-of-le l h)) (lit< tt)
+
+-- ---- copied, and reduced where that is not so already
+module _ (at n q : ℕ) (f : ℕ → ℕ) (old : List ℕ) where
+  pub copied-reduced : {new : List ℕ} → InRing q n f → new ≡ written at (tabulate n f) old → new ≡ written at (tabulate n (λ k. f k % q)) old
+  copied-reduced h e = e ∙ ap (λ (l : List ℕ). written at l old) (tabulate-cong n (λ k l. sym (mod-eq-of-lt (h k l))))
+
+  pub copied-then-reduced : {mid new : List ℕ} → at + n ≤ length old → mid ≡ written at (tabulate n f) old → new ≡ written at (tabulate n (λ k. part mid at k % q)) mid → new ≡ written at (tabulate n (λ k. f k % q)) old
+  copied-then-reduced {mid} {new} room e d =
+      let long : length (tabulate n (λ k. f k % q)) ≡ length (tabulate n f) = length-tabulate n (λ k. f k % q) ∙ sym (length-tabulate n f) in
+      d
+      ∙ ap (λ (l : List ℕ). written at l mid) (tabulate-cong n (λ k l. ap (λ (x : ℕ). x % q) (ap (λ (w : List ℕ). part w at k) e ∙ part-written at n f old (omega arith) l)))
+      ∙ ap (written at (tabulate n (λ k. f k % q))) e
+      ∙ written-written at (tabulate n (λ k. f k % q)) (tabulate n f) old long (omega (arith, length-tabulate n f))
 
 -- a at the front of words that were 0, then b at m
 module _ (n m q : ℕ) (a b : Element) (old mid new : List ℕ) (fits : n ≤ m) (room : 4 * m ≤ length old) (clear : InRing 1 (4 * m) (elementOf old)) (front : mid ≡ written 0 (tabulate n (λ k. a k % q)) old) (behind : new ≡ written m (tabulate n (λ k. b k % q)) mid) where

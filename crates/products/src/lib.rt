@@ -1,13 +1,16 @@
 // Products in R_q over the work words (01, "Ring, monomials, octets"): the product of two polynomials by Karatsuba, in arrays of its
-// own, then t^n = 1 and one reduction. Nothing is refused: callers keep parts within the words and coefficients below q. Contracts
-// cite ring's productAdded; those of the steps also specs/Halvings.antt.
+// own, then t^n = 1 and one reduction; a short one is summed row by row from where its factors stand. Nothing is refused: callers keep
+// parts within the words and coefficients below q. Contracts cite ring's productAdded; those of the steps also specs/Halvings.antt.
 ghost use mathlib.Core.Path.{_≡_};
-ghost use Prim.Native.Nat.{_+_, _*_, _^_, _%_, _/_, _<_, _≤_};
+ghost use Prim.Native.Nat.{ℕ, _+_, _*_, _^_, _%_, _/_, _<_, _≤_};
 ghost use lib.ListN.{length, getD};
 ghost use Rattle.definitions.specs.Sequences.{tabulate};
 ghost use Rattle.definitions.specs.Ring.{InRing, elementOf, modulo};
 ghost use Rattle.ring.specs.Work.{part, written, productAdded};
 ghost use Rattle.products.specs.Halvings.{Fit};
+
+// The most coefficients of a product that is summed row by row.
+const SHORT: usize = 80;
 
 // How a product of n coefficients is halved: so many times, down to leaves of at most 80; m is leaf times 2^levels.
 struct Halving {
@@ -55,17 +58,40 @@ fn split(n: usize) -> Halving
     halved(n, 6, 64)
 }
 
-// The element at from, reduced, to a place of other words.
-fn load(words: &mut [u32], at: usize, work: &[u32], from: usize, n: usize, q: u32)
-    requires { ⌜ (at + n ≤ length (now words)) × (from + n ≤ length (now work)) × (0 < q) ⌝ }
-    ensures { λ _. ⌜ now (words .exit) ≡ written at (tabulate n (λ k. part (now (work .entry)) from k % q)) (now (words .entry)) ⌝ }
+// The element at from to a place of other words.
+fn copy(words: &mut [u32], at: usize, work: &[u32], from: usize, n: usize)
+    requires { ⌜ (at + n ≤ length (now words)) × (from + n ≤ length (now work)) ⌝ }
+    ensures { λ _. ⌜ now (words .exit) ≡ written at (tabulate n (part (now (work .entry)) from)) (now (words .entry)) ⌝ }
 {
     let mut k = 0;
     while k < n {
-        let x = work[from + k];
-        words[at + k] = if x < q { x } else { x % q };
+        words[at + k] = work[from + k];
         k += 1;
     }
+}
+
+// The element at a place, reduced.
+fn reduce(words: &mut [u32], at: usize, n: usize, q: u32)
+    requires { ⌜ (at + n ≤ length (now words)) × (0 < q) ⌝ }
+    ensures { λ _. ⌜ now (words .exit) ≡ written at (tabulate n (λ k. part (now (words .entry)) at k % q)) (now (words .entry)) ⌝ }
+{
+    let mut k = 0;
+    while k < n {
+        words[at + k] = words[at + k] % q;
+        k += 1;
+    }
+}
+
+// The element at from, reduced, to a place of other words; where q is not below 16 it is reduced already.
+fn load(words: &mut [u32], at: usize, work: &[u32], from: usize, n: usize, q: u32)
+    requires { ⌜ (at + n ≤ length (now words)) × (from + n ≤ length (now work)) × (0 < q) × (16 ≤ q → InRing q n (part (now work) from)) ⌝ }
+    ensures { λ _. ⌜ now (words .exit) ≡ written at (tabulate n (λ k. part (now (work .entry)) from k % q)) (now (words .entry)) ⌝ }
+{
+    copy(words, at, work, from, n);
+    if q >= 16 {
+        return;
+    }
+    reduce(words, at, n, q);
 }
 
 // The sum of three coefficients modulo q.
@@ -89,6 +115,32 @@ fn fold(work: &mut [u32], c: usize, n: usize, q: u32, reciprocal: u64, product: 
     }
 }
 
+// The same of sums that are not reduced.
+fn fold_sums(work: &mut [u32], c: usize, n: usize, q: u32, reciprocal: u64, low: &[u64])
+    requires { ⌜ (c + n ≤ length (now work)) × (n + n ≤ length (now low)) × (0 < q) × (q < 2147483648) × (reciprocal ≡ 18446744073709551615 / q) ⌝ }
+    requires { ⌜ ((k : ℕ) → k < n → getD (now low) k 0 + getD (now low) (n + k) 0 ≤ 18446744069414584320) ⌝ }
+    ensures { λ _. ⌜ now (work .exit) ≡ written c (tabulate n (λ k. (getD (now (low .entry)) k 0 + getD (now (low .entry)) (n + k) 0 + part (now (work .entry)) c k) % q)) (now (work .entry)) ⌝ }
+{
+    let mut k = 0;
+    while k < n {
+        let s = low[k] + low[n + k] + work[c + k] as u64;
+        work[c + k] = reduction::remainder(s, q, reciprocal);
+        k += 1;
+    }
+}
+
+// In place c := a × b + c in R_q, row by row: short enough that the sums fit a word; top is a bound of b's coefficients.
+fn short(work: &mut [u32], a: usize, b: usize, c: usize, n: usize, q: u32, top: u32)
+    requires { ⌜ (a + n ≤ length (now work)) × (b + n ≤ length (now work)) × (c + n ≤ length (now work)) × (n ≤ 80) × (0 < q) × (q < 2147483648) × (top ≤ 2147483648) × (q * top ≤ 230584300867682304) ⌝ }
+    requires { ⌜ InRing q n (part (now work) a) × InRing top n (part (now work) b) ⌝ }
+    ensures { λ _. ⌜ now (work .exit) ≡ productAdded n q a b c (now (work .entry)) ⌝ }
+{
+    let mut low = [0u64; 168];
+    rows::sums(work, a, b, n, q, top, &mut low);
+    let reciprocal = reduction::reciprocal(q);
+    fold_sums(work, c, n, q, reciprocal, &low);
+}
+
 // In place c := a × b + c in R_q, in words of other arrays; top is a bound of b's coefficients modulo q.
 fn multiply_in(
     work: &mut [u32],
@@ -104,7 +156,7 @@ fn multiply_in(
 )
     requires { ⌜ (a + n ≤ length (now work)) × (b + n ≤ length (now work)) × (c + n ≤ length (now work)) × (0 < q) × (q < 2147483648) ⌝ }
     requires { ⌜ Fit n h × (4 * h .m ≤ length (now words)) × (4 * h .m ≤ length (now product)) × InRing 1 (4 * h .m) (elementOf (now words)) ⌝ }
-    requires { ⌜ (0 < top) × (top ≤ q) × InRing top n (modulo q (part (now work) b)) ⌝ }
+    requires { ⌜ (0 < top) × (top ≤ q) × InRing q n (part (now work) a) × InRing top n (modulo q (part (now work) b)) × (16 ≤ q → InRing q n (part (now work) b)) ⌝ }
     ensures { λ _. ⌜ now (work .exit) ≡ productAdded n q a b c (now (work .entry)) ⌝ }
 {
     let m = h.m;
@@ -120,7 +172,7 @@ fn multiply_in(
 // The same in arrays of the least of three sizes: what they are cleared by is then little beside the product.
 fn multiply_below(work: &mut [u32], a: usize, b: usize, c: usize, n: usize, q: u32, top: u32)
     requires { ⌜ (a + n ≤ length (now work)) × (b + n ≤ length (now work)) × (c + n ≤ length (now work)) × (n ≤ 4096) × (0 < q) × (q < 2147483648) ⌝ }
-    requires { ⌜ (0 < top) × (top ≤ q) × InRing top n (modulo q (part (now work) b)) ⌝ }
+    requires { ⌜ (0 < top) × (top ≤ q) × InRing q n (part (now work) a) × InRing top n (modulo q (part (now work) b)) × (16 ≤ q → InRing q n (part (now work) b)) ⌝ }
     ensures { λ _. ⌜ now (work .exit) ≡ productAdded n q a b c (now (work .entry)) ⌝ }
 {
     let h = split(n);
@@ -148,6 +200,12 @@ pub fn multiply_add(work: &mut [u32], a: usize, b: usize, c: usize, n: usize, q:
     requires { ⌜ InRing q n (part (now work) a) × InRing q n (part (now work) b) ⌝ }
     ensures { λ _. ⌜ now (work .exit) ≡ productAdded n q a b c (now (work .entry)) ⌝ }
 {
+    if n <= SHORT {
+        if (q as u64) * (q as u64) <= rows::UNCUT {
+            short(work, a, b, c, n, q, q);
+            return;
+        }
+    }
     multiply_below(work, a, b, c, n, q, q);
 }
 
@@ -157,6 +215,10 @@ pub fn multiply_add_small(work: &mut [u32], a: usize, b: usize, c: usize, n: usi
     requires { ⌜ InRing q n (part (now work) a) × InRing 16 n (part (now work) b) ⌝ }
     ensures { λ _. ⌜ now (work .exit) ≡ productAdded n q a b c (now (work .entry)) ⌝ }
 {
+    if n <= SHORT {
+        short(work, a, b, c, n, q, 16);
+        return;
+    }
     let top = if q < 16 { q } else { 16 };
     multiply_below(work, a, b, c, n, q, top);
 }

@@ -3,7 +3,7 @@
 -- Assumes nothing.
 use Prim.Native.Nat.{ℕ, zero, suc, _+_, _-_, _*_, _%_, _/_, _≤_, _<_}
 use native.Mathlib.Decide.{decLt, decLe, ℕ-discrete}
-use native.Mathlib.Nat.{add-zero, zero-add, zero-mul, mul-zero, sub-zero, add-assoc, mul-le-mul, le-of-lt}
+use native.Mathlib.Nat.{add-zero, zero-add, zero-mul, mul-zero, sub-zero, add-assoc, mul-le-mul, le-of-lt, lt-of-lt-of-le}
 use native.Mathlib.Omega.{arith}
 use mathlib.Core.Path.{_≡_, refl, sym, _∙_, ap, ap₂, subst}
 use mathlib.Core.List.{List}
@@ -15,6 +15,7 @@ use Rattle.definitions.specs.Ring.{Element, InRing, elementOf}
 use Rattle.definitions.proofs.Sums.{sameNumber-self, sameNumber-other, sum-cong, sum-append, sum-zero, sum-le, sum-const, sum-pick, sum-pick-outside, length-tabulate, tabulate-cong}
 use Rattle.ring.specs.Work.{part, written}
 use Rattle.ring.specs.Linear.{linear}
+use Rattle.ring.proofs.Linear.{linear-cong}
 use Rattle.ring.proofs.Work.{part-written, getD-written-before, getD-written-after}
 use Rattle.rows.specs.declared.Factors.{Factors}
 use Rattle.rows.specs.Rows.{padded, shifted, rowTerm, fourRows, eightRows, factorsFrom, rowSum, Surrounded, Operands, Added, Halves}
@@ -83,6 +84,9 @@ shifted-pick m b i k =
           ∙ sym (shifted-before m b {i = i} {k = k} (omega arith))
     ]
 
+shifted-cong : (m : ℕ) {b c : Element} → ((j : ℕ) → j < m → b j ≡ c j) → (i k : ℕ) → shifted m b i k ≡ shifted m c i k
+shifted-cong m {b} {c} h i k = sym (shifted-pick m b i k) ∙ sum-cong m (λ j l. ap (λ (x : ℕ). x * sameNumber (i + j) k) (h j l)) ∙ shifted-pick m c i k
+
 -- ---- all rows
 linear-rows : (m : ℕ) (a b : Element) (k : ℕ) → linear m a b k ≡ sum m (rowTerm m a b k)
 unfolding linear rowTerm
@@ -110,7 +114,7 @@ unfolding sum fourRows
 sum-eight-rows m a b i k = sum-append i 8 (rowTerm m a b k) ∙ simp (add-zero, zero-add, add-assoc)
 
 -- where all sums fit a word
-pub linear-small : (m q top : ℕ) (a b : Element) → m ≤ 80 → q * top ≤ 230584300921369395 → InRing q m a → InRing top m b → (k : ℕ) → linear m a b k < 18446744073709551616
+pub linear-small : (m q top : ℕ) (a b : Element) → m ≤ 80 → q * top ≤ 230584300867682304 → InRing q m a → InRing top m b → (k : ℕ) → linear m a b k < 18446744073709551616
 unfolding rowTerm
 linear-small m q top a b few l h g k =
     let bound : (i : ℕ) → i < m → rowTerm m a b k i ≤ q * top =
@@ -189,15 +193,37 @@ unfolding factorsFrom
 factors-below m a h l i = (padded-below m a h l i, padded-below m a h l (i + 1), padded-below m a h l (i + 2), padded-below m a h l (i + 3))
 
 -- what `row_sum` asks, and what it then sums
-module _ {m : ℕ} {words row : List ℕ} (o : Operands m words row) (i h : ℕ) {f : Factors} (e : f ≡ factorsFrom m (part words 0) i) where
+module _ {m at : ℕ} {words row : List ℕ} (o : Operands m words at row) (i h : ℕ) {f : Factors} (e : f ≡ factorsFrom m (part words at) i) where
   pub row-sum-asked : h + 4 ≤ m + 14 → ((f .a0 < 2147483648) × (f .a1 < 2147483648) × (f .a2 < 2147483648) × (f .a3 < 2147483648)) × ((h + 4 ≤ length row) × ((j : ℕ) → getD row j 0 < 2147483648))
   row-sum-asked l = (
-    rw e (factors-below m (part words 0) (o .first-small) (lit< tt) i),
-    (omega (arith, o .room), λ j. rw (o .surrounded j) (shifted-below m (part words m) (o .second-small) (lit< tt) 7 j)),
+    rw e (factors-below m (part words at) (o .first-small) (lit< tt) i),
+    (omega (arith, o .room), λ j. rw (o .surrounded j) (shifted-below m (part row 7) (o .second-small) (lit< tt) 7 j)),
   )
 
-  pub row-sum-rows : (p : ℕ) → i + h ≡ p + 4 → {s : ℕ} → s ≡ rowSum f row h → s ≡ fourRows m (part words 0) (part words m) i p
-  row-sum-rows p g d = d ∙ rw e (four-rows-sum m (part words 0) (part words m) row (o .surrounded) i h p g)
+  pub row-sum-rows : (p : ℕ) → i + h ≡ p + 4 → {s : ℕ} → s ≡ rowSum f row h → s ≡ fourRows m (part words at) (part row 7) i p
+  row-sum-rows p g d = d ∙ rw e (four-rows-sum m (part words at) (part row 7) row (o .surrounded) i h p g)
+
+shifted-by : (m : ℕ) (b : Element) (i : ℕ) {k : ℕ} → k < m → shifted m b i (i + k) ≡ b k
+shifted-by m b i {k} l = shifted-along m b i (i + k) 0 k (omega arith) ∙ shifted-start m b k ∙ padded-inside m b l
+
+-- the polynomial that stands in a row
+module _ (m : ℕ) (b : Element) (row : List ℕ) (around : Surrounded m b row) where
+  row-inside : (k : ℕ) → k < m → part row 7 k ≡ b k
+  row-inside k l = around (7 + k) ∙ shifted-by m b 7 l
+
+  pub row-operands : {at q top : ℕ} {words : List ℕ} → m ≤ 80 → at + m ≤ length words → m + 14 ≤ length row → q ≤ 2147483648 → top ≤ 2147483648 → InRing q m (part words at) → InRing top m b → Operands m words at row
+  row-operands few within room x y h g =
+      record {
+        few = few;
+        within = within;
+        room = room;
+        first-small = λ k l. lt-of-lt-of-le (h k l) x;
+        second-small = λ k l. rw (row-inside k l) (lt-of-lt-of-le (g k l) y);
+        surrounded = λ j. around j ∙ shifted-cong m (λ k l. sym (row-inside k l)) 7 j;
+      }
+
+  pub linear-row : (a : Element) (k : ℕ) → linear m a (part row 7) k ≡ linear m a b k
+  linear-row a k = linear-cong m (λ i l. refl) row-inside k
 
 zeros-at : (n k : ℕ) → elementOf (replicate n 0) k ≡ 0
 zeros-at zero k = refl
@@ -208,7 +234,7 @@ pub surrounded-written : (m : ℕ) (b : Element) {row : List ℕ} → m ≤ 80 �
 surrounded-written m b few e j =
     rw e (written-at 7 m b (shifted m b 7) (replicate 96 0) (omega (arith, length-replicate {A = ℕ} 96 0))
     (λ k l. zeros-at 96 k ∙ sym (shifted-before m b l))
-    (λ k l. sym (shifted-along m b 7 (7 + k) 0 k (omega arith) ∙ shifted-start m b k ∙ padded-inside m b l))
+    (λ k l. sym (shifted-by m b 7 l))
     (λ k l. zeros-at 96 k ∙ sym (shifted-after m b 7 l))
     j)
 

@@ -8,7 +8,7 @@
 --   factorsFrom      the factors of the four rows from i on
 --   rowSum           four rows as they are summed, with given factors: the first is read at k + 3, each next one a place before
 --   Surrounded       a row: a list in which b stands after seven zeros and before no others than zeros
---   Operands         two polynomials of at most 80 coefficients below 2^31 stand one after the other in the words, the second also in a row
+--   Operands         two polynomials of at most 80 coefficients below 2^31 stand in the words, from a place on, and in a row
 --   Added            a list with f k added at each place k
 --   Halves           a number cut at 2^42: low + 2^42 × high, both small enough to be put together again below 2^64
 -- Assumes nothing.
@@ -46,13 +46,13 @@ rowSum f row k = f .a0 * getD row (k + 3) 0 + f .a1 * getD row (k + 2) 0 + f .a2
 abbrev pub Surrounded : ℕ → Element → List ℕ → Type 0
 Surrounded m b row = (j : ℕ) → getD row j 0 ≡ shifted m b 7 j
 
-pub record Operands (m : ℕ) (words row : List ℕ) : Type 0 where
+pub record Operands (m : ℕ) (words : List ℕ) (at : ℕ) (row : List ℕ) : Type 0 where
   pub few : m ≤ 80
-  pub within : m + m ≤ length words
+  pub within : at + m ≤ length words
   pub room : m + 14 ≤ length row
-  pub first-small : InRing 2147483648 m (part words 0)
-  pub second-small : InRing 2147483648 m (part words m)
-  pub surrounded : Surrounded m (part words m) row
+  pub first-small : InRing 2147483648 m (part words at)
+  pub second-small : InRing 2147483648 m (part row 7)
+  pub surrounded : Surrounded m (part row 7) row
 
 abbrev pub Added : (ℕ → ℕ) → List ℕ → List ℕ → Type 0
 Added f old new = (k : ℕ) → getD new k 0 ≡ getD old k 0 + f k

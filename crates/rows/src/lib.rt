@@ -1,7 +1,7 @@
 // The product of two short polynomials, row by row (a leaf of Karatsuba's product): row i is a_i × b, shifted by i places, and eight rows
 // are added at a time, in 64 bits. Where eighty products may pass 2^64, each sum of four is cut at 2^42 into a low and a high part. One
-// reduction at the end is enough. Nothing is refused: callers keep to 80 coefficients, each below q and those of b below top.
-// The contract cites ring's linear; those of the steps also specs/Rows.antt.
+// reduction at the end is enough, and is left to callers of the sums. Nothing is refused: callers keep to 80 coefficients, each below q
+// and those of b below top. The contracts cite ring's linear; those of the steps also specs/Rows.antt.
 ghost use mathlib.Core.Path.{_≡_};
 ghost use Prim.Native.Nat.{ℕ, _+_, _*_, _%_, _/_, _<_, _≤_};
 ghost use lib.ListN.{length, getD, replicate};
@@ -14,8 +14,8 @@ ghost use Rattle.rows.specs.Rows.{padded, factorsFrom, eightRows, rowSum
 // Where a sum of four products is cut: 2^42.
 const CUT: u64 = 4398046511104;
 
-// The largest product of which eighty fit a word: (2^64 - 1) / 80.
-const UNCUT: u64 = 230584300921369395;
+// The largest product of which eighty, and a word of 32 bits, fit 64 bits: (2^64 - 2^32) / 80.
+pub const UNCUT: u64 = 230584300867682304;
 
 // How many rows are added at a time.
 const PASS: usize = 8;
@@ -29,34 +29,34 @@ struct Factors {
 }
 
 // The factor of row i; 0 past the last row.
-fn factor(words: &[u32], m: usize, i: usize) -> u32
-    requires { ⌜ m ≤ length (now words) ⌝ }
-    ensures { λ r. ⌜ r ≡ padded m (part (now (words .entry)) 0) i ⌝ }
+fn factor(words: &[u32], at: usize, m: usize, i: usize) -> u32
+    requires { ⌜ at + m ≤ length (now words) ⌝ }
+    ensures { λ r. ⌜ r ≡ padded m (part (now (words .entry)) at) i ⌝ }
 {
-    if i < m { words[i] } else { 0 }
+    if i < m { words[at + i] } else { 0 }
 }
 
 // The factors of the rows from i on.
-fn factors_from(words: &[u32], m: usize, i: usize) -> Factors
-    requires { ⌜ (m ≤ length (now words)) × (i < 100) ⌝ }
-    ensures { λ r. ⌜ r ≡ factorsFrom m (part (now (words .entry)) 0) i ⌝ }
+fn factors_from(words: &[u32], at: usize, m: usize, i: usize) -> Factors
+    requires { ⌜ (at + m ≤ length (now words)) × (i < 100) ⌝ }
+    ensures { λ r. ⌜ r ≡ factorsFrom m (part (now (words .entry)) at) i ⌝ }
 {
     Factors {
-        a0: factor(words, m, i),
-        a1: factor(words, m, i + 1),
-        a2: factor(words, m, i + 2),
-        a3: factor(words, m, i + 3),
+        a0: factor(words, at, m, i),
+        a1: factor(words, at, m, i + 1),
+        a2: factor(words, at, m, i + 2),
+        a3: factor(words, at, m, i + 3),
     }
 }
 
 // The row: b, between seven zeros and seven more.
-fn pad(row: &mut [u64], words: &[u32], m: usize)
-    requires { ⌜ (m ≤ 80) × (m + m ≤ length (now words)) × (now row ≡ replicate 96 0) ⌝ }
-    ensures { λ _. ⌜ Surrounded m (part (now (words .entry)) m) (now (row .exit)) ⌝ }
+fn pad(row: &mut [u64], words: &[u32], from: usize, m: usize)
+    requires { ⌜ (m ≤ 80) × (from + m ≤ length (now words)) × (now row ≡ replicate 96 0) ⌝ }
+    ensures { λ _. ⌜ Surrounded m (part (now (words .entry)) from) (now (row .exit)) ⌝ }
 {
     let mut k = 0;
     while k < m {
-        row[7 + k] = words[m + k] as u64;
+        row[7 + k] = words[from + k] as u64;
         k += 1;
     }
 }
@@ -83,13 +83,13 @@ fn row_sum(f: Factors, row: &[u64], k: usize) -> u64
 }
 
 // Eight rows, from row i on, added at the places that they reach.
-fn add_rows(low: &mut [u64], words: &[u32], m: usize, row: &[u64], i: usize)
-    requires { ⌜ Operands m (now words) (now row) × (i < m) × (i + (m + 7) ≤ length (now low)) ⌝ }
-    requires { ⌜ ((k : ℕ) → getD (now low) k 0 + eightRows (λ s. s) m (part (now words) 0) (part (now words) m) i k < 18446744073709551616) ⌝ }
-    ensures { λ _. ⌜ Added (eightRows (λ s. s) m (part (now (words .entry)) 0) (part (now (words .entry)) m) i) (now (low .entry)) (now (low .exit)) ⌝ }
+fn add_rows(low: &mut [u64], words: &[u32], at: usize, m: usize, row: &[u64], i: usize)
+    requires { ⌜ Operands m (now words) at (now row) × (i < m) × (i + (m + 7) ≤ length (now low)) ⌝ }
+    requires { ⌜ ((k : ℕ) → getD (now low) k 0 + eightRows (λ s. s) m (part (now words) at) (part (now row) 7) i k < 18446744073709551616) ⌝ }
+    ensures { λ _. ⌜ Added (eightRows (λ s. s) m (part (now (words .entry)) at) (part (now (row .entry)) 7) i) (now (low .entry)) (now (low .exit)) ⌝ }
 {
-    let f = factors_from(words, m, i);
-    let g = factors_from(words, m, i + 4);
+    let f = factors_from(words, at, m, i);
+    let g = factors_from(words, at, m, i + 4);
     let end = m + 7;
     let mut k = 0;
     while k < end {
@@ -99,14 +99,22 @@ fn add_rows(low: &mut [u64], words: &[u32], m: usize, row: &[u64], i: usize)
 }
 
 // The same with both sums cut.
-fn add_cut_rows(low: &mut [u64], high: &mut [u64], words: &[u32], m: usize, row: &[u64], i: usize)
-    requires { ⌜ Operands m (now words) (now row) × (i < m) × (i + (m + 7) ≤ length (now low)) × (i + (m + 7) ≤ length (now high)) ⌝ }
+fn add_cut_rows(
+    low: &mut [u64],
+    high: &mut [u64],
+    words: &[u32],
+    at: usize,
+    m: usize,
+    row: &[u64],
+    i: usize,
+)
+    requires { ⌜ Operands m (now words) at (now row) × (i < m) × (i + (m + 7) ≤ length (now low)) × (i + (m + 7) ≤ length (now high)) ⌝ }
     requires { ⌜ ((k : ℕ) → getD (now low) k 0 < 9223372036854775808) × ((k : ℕ) → getD (now high) k 0 < 9223372036854775808) ⌝ }
-    ensures { λ _. ⌜ Added (eightRows (λ s. s % 4398046511104) m (part (now (words .entry)) 0) (part (now (words .entry)) m) i) (now (low .entry)) (now (low .exit)) ⌝ }
-    ensures { λ _. ⌜ Added (eightRows (λ s. s / 4398046511104) m (part (now (words .entry)) 0) (part (now (words .entry)) m) i) (now (high .entry)) (now (high .exit)) ⌝ }
+    ensures { λ _. ⌜ Added (eightRows (λ s. s % 4398046511104) m (part (now (words .entry)) at) (part (now (row .entry)) 7) i) (now (low .entry)) (now (low .exit)) ⌝ }
+    ensures { λ _. ⌜ Added (eightRows (λ s. s / 4398046511104) m (part (now (words .entry)) at) (part (now (row .entry)) 7) i) (now (high .entry)) (now (high .exit)) ⌝ }
 {
-    let f = factors_from(words, m, i);
-    let g = factors_from(words, m, i + 4);
+    let f = factors_from(words, at, m, i);
+    let g = factors_from(words, at, m, i + 4);
     let end = m + 7;
     let mut k = 0;
     while k < end {
@@ -119,26 +127,26 @@ fn add_cut_rows(low: &mut [u64], high: &mut [u64], words: &[u32], m: usize, row:
 }
 
 // All rows, eight at a time, to sums that are 0: the product, where it fits a word at each place.
-fn all_rows(low: &mut [u64], words: &[u32], m: usize, row: &[u64])
-    requires { ⌜ Operands m (now words) (now row) × (now low ≡ replicate 168 0) ⌝ }
-    requires { ⌜ ((k : ℕ) → linear m (part (now words) 0) (part (now words) m) k < 18446744073709551616) ⌝ }
-    ensures { λ _. ⌜ ((k : ℕ) → getD (now (low .exit)) k 0 ≡ linear m (part (now (words .entry)) 0) (part (now (words .entry)) m) k) ⌝ }
+fn all_rows(low: &mut [u64], words: &[u32], at: usize, m: usize, row: &[u64])
+    requires { ⌜ Operands m (now words) at (now row) × (now low ≡ replicate 168 0) ⌝ }
+    requires { ⌜ ((k : ℕ) → linear m (part (now words) at) (part (now row) 7) k < 18446744073709551616) ⌝ }
+    ensures { λ _. ⌜ ((k : ℕ) → getD (now (low .exit)) k 0 ≡ linear m (part (now (words .entry)) at) (part (now (row .entry)) 7) k) ⌝ }
 {
     let mut i = 0;
     while i < m {
-        add_rows(low, words, m, row, i);
+        add_rows(low, words, at, m, row, i);
         i += PASS;
     }
 }
 
 // The same with cut sums: the two halves of the product.
-fn all_cut_rows(low: &mut [u64], high: &mut [u64], words: &[u32], m: usize, row: &[u64])
-    requires { ⌜ Operands m (now words) (now row) × (now low ≡ replicate 168 0) × (now high ≡ replicate 168 0) ⌝ }
-    ensures { λ _. ⌜ ((k : ℕ) → Halves (linear m (part (now (words .entry)) 0) (part (now (words .entry)) m) k) (getD (now (low .exit)) k 0) (getD (now (high .exit)) k 0)) ⌝ }
+fn all_cut_rows(low: &mut [u64], high: &mut [u64], words: &[u32], at: usize, m: usize, row: &[u64])
+    requires { ⌜ Operands m (now words) at (now row) × (now low ≡ replicate 168 0) × (now high ≡ replicate 168 0) ⌝ }
+    ensures { λ _. ⌜ ((k : ℕ) → Halves (linear m (part (now (words .entry)) at) (part (now (row .entry)) 7) k) (getD (now (low .exit)) k 0) (getD (now (high .exit)) k 0)) ⌝ }
 {
     let mut i = 0;
     while i < m {
-        add_cut_rows(low, high, words, m, row, i);
+        add_cut_rows(low, high, words, at, m, row, i);
         i += PASS;
     }
 }
@@ -169,32 +177,39 @@ fn reduce_cut(product: &mut [u32], low: &[u64], high: &[u64], n: usize, q: u32, 
     }
 }
 
-// The product where it fits a word at each place.
-fn multiply_uncut(
-    words: &[u32],
-    m: usize,
-    q: u32,
-    reciprocal: u64,
-    row: &[u64],
-    product: &mut [u32],
-)
-    requires { ⌜ Operands m (now words) (now row) × (m + m ≤ length (now product)) × (0 < q) × (q < 2147483648) × (reciprocal ≡ 18446744073709551615 / q) ⌝ }
-    requires { ⌜ ((k : ℕ) → linear m (part (now words) 0) (part (now words) m) k < 18446744073709551616) ⌝ }
+// The sums of the rows of two polynomials that stand anywhere in the words, not reduced; q and top are bounds of their coefficients.
+pub fn sums(words: &[u32], a: usize, b: usize, m: usize, q: u32, top: u32, low: &mut [u64])
+    requires { ⌜ (m ≤ 80) × (a + m ≤ length (now words)) × (b + m ≤ length (now words)) × (now low ≡ replicate 168 0) × (q * top ≤ 230584300867682304) × (q < 2147483648) × (top ≤ 2147483648) ⌝ }
+    requires { ⌜ InRing q m (part (now words) a) × InRing top m (part (now words) b) ⌝ }
+    ensures { λ _. ⌜ ((k : ℕ) → getD (now (low .exit)) k 0 ≡ linear m (part (now (words .entry)) a) (part (now (words .entry)) b) k) ⌝ }
+{
+    let mut row = [0u64; 96];
+    pad(&mut row, words, b, m);
+    all_rows(low, words, a, m, &row);
+}
+
+// The product where eighty products fit a word.
+fn multiply_uncut(words: &[u32], m: usize, q: u32, top: u32, reciprocal: u64, product: &mut [u32])
+    requires { ⌜ (m ≤ 80) × (m + m ≤ length (now words)) × (m + m ≤ length (now product)) × (top ≤ q) × (0 < q) × (q < 2147483648) × (reciprocal ≡ 18446744073709551615 / q) × (q * top ≤ 230584300867682304) ⌝ }
+    requires { ⌜ InRing q m (part (now words) 0) × InRing top m (part (now words) m) ⌝ }
     ensures { λ _. ⌜ now (product .exit) ≡ written 0 (tabulate (m + m) (λ k. linear m (part (now (words .entry)) 0) (part (now (words .entry)) m) k % q)) (now (product .entry)) ⌝ }
 {
     let mut low = [0u64; 168];
-    all_rows(&mut low, words, m, row);
+    sums(words, 0, m, m, q, top, &mut low);
     reduce(product, &low, m + m, q, reciprocal);
 }
 
 // The product in any case.
-fn multiply_cut(words: &[u32], m: usize, q: u32, reciprocal: u64, row: &[u64], product: &mut [u32])
-    requires { ⌜ Operands m (now words) (now row) × (m + m ≤ length (now product)) × (0 < q) × (q < 2147483648) × (reciprocal ≡ 18446744073709551615 / q) ⌝ }
+fn multiply_cut(words: &[u32], m: usize, q: u32, reciprocal: u64, product: &mut [u32])
+    requires { ⌜ (m ≤ 80) × (m + m ≤ length (now words)) × (m + m ≤ length (now product)) × (0 < q) × (q < 2147483648) × (reciprocal ≡ 18446744073709551615 / q) ⌝ }
+    requires { ⌜ InRing q m (part (now words) 0) × InRing q m (part (now words) m) ⌝ }
     ensures { λ _. ⌜ now (product .exit) ≡ written 0 (tabulate (m + m) (λ k. linear m (part (now (words .entry)) 0) (part (now (words .entry)) m) k % q)) (now (product .entry)) ⌝ }
 {
+    let mut row = [0u64; 96];
     let mut low = [0u64; 168];
     let mut high = [0u64; 168];
-    all_cut_rows(&mut low, &mut high, words, m, row);
+    pad(&mut row, words, m, m);
+    all_cut_rows(&mut low, &mut high, words, 0, m, &row);
     reduce_cut(product, &low, &high, m + m, q, reciprocal);
 }
 
@@ -205,11 +220,9 @@ pub fn multiply(words: &[u32], m: usize, q: u32, top: u32, reciprocal: u64, prod
     requires { ⌜ InRing q m (part (now words) 0) × InRing top m (part (now words) m) ⌝ }
     ensures { λ _. ⌜ now (product .exit) ≡ written 0 (tabulate (m + m) (λ k. linear m (part (now (words .entry)) 0) (part (now (words .entry)) m) k % q)) (now (product .entry)) ⌝ }
 {
-    let mut row = [0u64; 96];
-    pad(&mut row, words, m);
     if (q as u64) * (top as u64) <= UNCUT {
-        multiply_uncut(words, m, q, reciprocal, &row, product);
+        multiply_uncut(words, m, q, top, reciprocal, product);
     } else {
-        multiply_cut(words, m, q, reciprocal, &row, product);
+        multiply_cut(words, m, q, reciprocal, product);
     }
 }

@@ -1,80 +1,35 @@
--- `products::load` meets its contract: after k turns the first k coefficients are reduced and written.
+-- `products::load` meets its contract: where q is not below 16 a coefficient is its own remainder, and else each is reduced.
 -- Assumes nothing.
-use Prim.Native.Nat.{_-_, _%_, _≤_}
-use native.Mathlib.Nat.{mod-eq-of-lt}
-use native.Mathlib.Omega.{arith}
-use mathlib.Core.Path.{_≡_, refl, sym, _∙_}
-use mathlib.Core.Logic.{⊎-elim}
 use Rattle.ring.specs.Work.{part}
-use Rattle.ring.proofs.Work.{Writing, writing-none, writing-more, writing-all}
+use Rattle.products.proofs.Loading.{copied-reduced, copied-then-reduced}
+use borrow.Author.Needs.{needs}
 use Rattle.products.proofs.load.Statement.{statement}
 use Rattle.products.proofs.load.Tie as tie
 
-abbrev Inv-loop : tie.InvT-loop
-Inv-loop words₀ at work from n q k₀ words k = (k ≤ n) × Writing at k (λ j. part work from j % q) words₀ words
+copy-requires : tie.Need-copy-requires
+copy-requires c κs = search needs
 
-abbrev μ-loop : tie.MeasureT-loop
-μ-loop words₀ at work from n q k₀ words k = n - k
+same-length : tie.Need-same-length
+same-length c = search needs
 
-loop-holds : tie.Need-loop-holds Inv-loop μ-loop
-loop-holds c = (omega arith, writing-none _ _ _)
+returns : tie.Need-returns
+returns c =
+    let start = c .before .before .before .before .before .before .before in
+    let a = start .args in
+    copied-reduced (a .at) (a .n) (a .q) (part (a .work .now) (a .from)) (a .words .now) (start .pre .3 (c .if1 .taken)) (c .before .before .before .copy .ensures)
 
-add-x : tie.Need-add-x Inv-loop μ-loop
-add-x c = omega arith
+reduce-requires : tie.Need-reduce-requires
+reduce-requires c κs = search needs
 
-mul-x : tie.Need-mul-x Inv-loop μ-loop
-mul-x c = omega arith
+same-length-2 : tie.Need-same-length-2
+same-length-2 c = search needs
 
-shared-slice-read-x : tie.Need-shared-slice-read-x Inv-loop μ-loop
-shared-slice-read-x c = omega arith
-
-rem-words : tie.Need-rem-words Inv-loop μ-loop
-rem-words c = omega arith
-
-add-words : tie.Need-add-words Inv-loop μ-loop
-add-words c = omega arith
-
-mul-words : tie.Need-mul-words Inv-loop μ-loop
-mul-words c = omega arith
-
-slice-write-words : tie.Need-slice-write-words Inv-loop μ-loop
-slice-write-words c = omega arith
-
-add-k : tie.Need-add-k Inv-loop μ-loop
-add-k c = omega arith
-
-loop-less : tie.Need-loop-less Inv-loop μ-loop
-loop-less c = omega arith
-
--- where x is below q it is its own remainder
-reduced : (c : tie.Joined1 Inv-loop μ-loop) → c .if1 .words ≡ part (c .before .before .before .before .args .work .now) (c .before .before .before .before .args .from) (c .before .before .before .loop .k) % c .before .before .before .before .args .q
-reduced c = ⊎-elim (λ w. w .1 ∙ sym (mod-eq-of-lt (w .0 .taken))) (λ w. w .1) (c .if1 .came)
-
-loop-again : tie.Need-loop-again Inv-loop μ-loop
-loop-again c = (omega arith, writing-more (c .before .before .before .loop .inv .1) refl (omega arith) (reduced c))
-
-same-length : tie.Need-same-length Inv-loop μ-loop
-same-length c = omega arith
-
-returns : tie.Need-returns Inv-loop μ-loop
-returns c = writing-all (c .before .loop .inv .1) (omega arith)
+returns-2 : tie.Need-returns-2
+returns-2 c =
+    let start = c .before .before .before .before .before .before .before .before .before .before .before in
+    let a = start .args in
+    copied-then-reduced (a .at) (a .n) (a .q) (part (a .work .now) (a .from)) (a .words .now) (start .pre .0) (c .before .before .before .before .before .before .before .copy .ensures) (c .before .before .reduce .ensures)
 
 pub load-spec : {M : Type 1} → statement M
 load-spec =
-    tie.close
-    (tie.spec
-    Inv-loop
-    μ-loop
-    loop-holds
-    add-x
-    mul-x
-    shared-slice-read-x
-    rem-words
-    add-words
-    mul-words
-    slice-write-words
-    add-k
-    loop-less
-    loop-again
-    same-length
-    returns)
+    tie.close (tie.spec copy-requires same-length returns reduce-requires same-length-2 returns-2)

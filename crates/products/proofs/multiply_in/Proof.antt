@@ -38,7 +38,7 @@ multiply-requires c κs =
         (start .pre .1 .1 .1, start .pre .0 .3, start .pre .0 .4, c .before .before .reciprocal .ensures),
         (
           loaded-below (both .0) (start .pre .0 .3) (reduced-below (a .n) (part (a .work .now) (a .a)) (start .pre .0 .3)),
-          loaded-below (both .1) (start .pre .1 .1 .0) (start .pre .1 .1 .2),
+          loaded-below (both .1) (start .pre .1 .1 .0) (start .pre .1 .1 .3),
         ),
       ),
     )

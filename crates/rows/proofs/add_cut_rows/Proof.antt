@@ -13,13 +13,13 @@ use Rattle.rows.proofs.add_cut_rows.Statement.{statement}
 use Rattle.rows.proofs.add_cut_rows.Tie as tie
 
 abbrev Inv-loop : tie.InvT-loop
-Inv-loop low₀ high₀ words m row i f g end k₀ low high k =
+Inv-loop low₀ high₀ words at m row i f g end k₀ low high k =
     (k ≤ m + 7)
-    × Writing i k (λ j. part low₀ i j + eightRows (λ s. s % 4398046511104) m (part words 0) (part words m) i (i + j)) low₀ low
-    × Writing i k (λ j. part high₀ i j + eightRows (λ s. s / 4398046511104) m (part words 0) (part words m) i (i + j)) high₀ high
+    × Writing i k (λ j. part low₀ i j + eightRows (λ s. s % 4398046511104) m (part words at) (part row 7) i (i + j)) low₀ low
+    × Writing i k (λ j. part high₀ i j + eightRows (λ s. s / 4398046511104) m (part words at) (part row 7) i (i + j)) high₀ high
 
 abbrev μ-loop : tie.MeasureT-loop
-μ-loop low₀ high₀ words m row i f g end k₀ low high k = m + 7 - k
+μ-loop low₀ high₀ words at m row i f g end k₀ low high k = m + 7 - k
 
 factors-from-requires : tie.Need-factors-from-requires Inv-loop μ-loop
 factors-from-requires c κs = omega (arith, c .before .before .before .before .pre .0 .0 .within)
@@ -52,7 +52,7 @@ row-sum-requires-2 c κs =
 -- the sums of this turn
 first : (c : tie.After-row-sum Inv-loop μ-loop) →
     let a = c .before .before .before .before .before .before .before .before .before .args in
-    c .row-sum .result ≡ fourRows (a .m) (part (a .words .now) 0) (part (a .words .now) (a .m)) (a .i) (a .i + c .before .before .loop .k)
+    c .row-sum .result ≡ fourRows (a .m) (part (a .words .now) (a .at)) (part (a .row .now) 7) (a .i) (a .i + c .before .before .loop .k)
 first c =
     let start = c .before .before .before .before .before .before .before .before .before in
     let a = start .args in
@@ -61,7 +61,7 @@ first c =
 
 second : (c : tie.After-row-sum2 Inv-loop μ-loop) →
     let a = c .before .before .before .before .before .before .before .before .before .before .args in
-    c .row-sum2 .result ≡ fourRows (a .m) (part (a .words .now) 0) (part (a .words .now) (a .m)) (a .i + 4) (a .i + c .before .before .before .loop .k)
+    c .row-sum2 .result ≡ fourRows (a .m) (part (a .words .now) (a .at)) (part (a .row .now) 7) (a .i + 4) (a .i + c .before .before .before .loop .k)
 second c =
     let start = c .before .before .before .before .before .before .before .before .before .before in
     let a = start .args in

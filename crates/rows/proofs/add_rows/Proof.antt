@@ -12,10 +12,10 @@ use Rattle.rows.proofs.add_rows.Statement.{statement}
 use Rattle.rows.proofs.add_rows.Tie as tie
 
 abbrev Inv-loop : tie.InvT-loop
-Inv-loop low₀ words m row i f g end k₀ low k = (k ≤ m + 7) × Writing i k (λ j. part low₀ i j + eightRows (λ s. s) m (part words 0) (part words m) i (i + j)) low₀ low
+Inv-loop low₀ words at m row i f g end k₀ low k = (k ≤ m + 7) × Writing i k (λ j. part low₀ i j + eightRows (λ s. s) m (part words at) (part row 7) i (i + j)) low₀ low
 
 abbrev μ-loop : tie.MeasureT-loop
-μ-loop low₀ words m row i f g end k₀ low k = m + 7 - k
+μ-loop low₀ words at m row i f g end k₀ low k = m + 7 - k
 
 factors-from-requires : tie.Need-factors-from-requires Inv-loop μ-loop
 factors-from-requires c κs = omega (arith, c .before .before .before .pre .0 .0 .within)
@@ -52,7 +52,7 @@ row-sum-requires c κs =
 -- the sums of this turn
 first : (c : tie.After-row-sum Inv-loop μ-loop) →
     let a = c .before .before .before .before .before .before .before .before .before .args in
-    c .row-sum .result ≡ fourRows (a .m) (part (a .words .now) 0) (part (a .words .now) (a .m)) (a .i) (a .i + c .before .before .before .loop .k)
+    c .row-sum .result ≡ fourRows (a .m) (part (a .words .now) (a .at)) (part (a .row .now) 7) (a .i) (a .i + c .before .before .before .loop .k)
 first c =
     let start = c .before .before .before .before .before .before .before .before .before in
     let a = start .args in
@@ -68,7 +68,7 @@ place c = writing-ahead (c .before .before .before .before .before .before .befo
 room : (c : tie.In-loop Inv-loop μ-loop) →
     let a = c .before .before .before .before .before .before .before .args in
     let p = a .i + c .before .loop .k in
-    getD (c .before .loop .low) p 0 + eightRows (λ s. s) (a .m) (part (a .words .now) 0) (part (a .words .now) (a .m)) (a .i) p < 18446744073709551616
+    getD (c .before .loop .low) p 0 + eightRows (λ s. s) (a .m) (part (a .words .now) (a .at)) (part (a .row .now) 7) (a .i) p < 18446744073709551616
 room c =
     let start = c .before .before .before .before .before .before .before in
     rw (place c) (start .pre .1 (start .args .i + c .before .loop .k))
@@ -83,7 +83,7 @@ row-sum-requires-2 c κs =
 
 second : (c : tie.After-row-sum2 Inv-loop μ-loop) →
     let a = c .before .before .before .before .before .before .before .before .before .before .args in
-    c .row-sum2 .result ≡ fourRows (a .m) (part (a .words .now) 0) (part (a .words .now) (a .m)) (a .i + 4) (a .i + c .before .before .before .before .loop .k)
+    c .row-sum2 .result ≡ fourRows (a .m) (part (a .words .now) (a .at)) (part (a .row .now) 7) (a .i + 4) (a .i + c .before .before .before .before .loop .k)
 second c =
     let start = c .before .before .before .before .before .before .before .before .before .before in
     let a = start .args in

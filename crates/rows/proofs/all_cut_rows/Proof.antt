@@ -11,10 +11,10 @@ use Rattle.rows.proofs.all_cut_rows.Statement.{statement}
 use Rattle.rows.proofs.all_cut_rows.Tie as tie
 
 abbrev Inv-loop : tie.InvT-loop
-Inv-loop low₀ high₀ words m row i₀ low high i = (i < m + 8) × (length low₀ ≡ 168) × (length high₀ ≡ 168) × (length low ≡ 168) × (length high ≡ 168) × CutRows m (part words 0) (part words m) i low high
+Inv-loop low₀ high₀ words at m row i₀ low high i = (i < m + 8) × (length low₀ ≡ 168) × (length high₀ ≡ 168) × (length low ≡ 168) × (length high ≡ 168) × CutRows m (part words at) (part row 7) i low high
 
 abbrev μ-loop : tie.MeasureT-loop
-μ-loop low₀ high₀ words m row i₀ low high i = m - i
+μ-loop low₀ high₀ words at m row i₀ low high i = m - i
 
 loop-holds : tie.Need-loop-holds Inv-loop μ-loop
 loop-holds c =

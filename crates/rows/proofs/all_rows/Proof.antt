@@ -10,10 +10,10 @@ use Rattle.rows.proofs.all_rows.Statement.{statement}
 use Rattle.rows.proofs.all_rows.Tie as tie
 
 abbrev Inv-loop : tie.InvT-loop
-Inv-loop low₀ words m row i₀ low i = (i < m + 8) × (length low₀ ≡ 168) × (length low ≡ 168) × Rows m (part words 0) (part words m) i low
+Inv-loop low₀ words at m row i₀ low i = (i < m + 8) × (length low₀ ≡ 168) × (length low ≡ 168) × Rows m (part words at) (part row 7) i low
 
 abbrev μ-loop : tie.MeasureT-loop
-μ-loop low₀ words m row i₀ low i = m - i
+μ-loop low₀ words at m row i₀ low i = m - i
 
 loop-holds : tie.Need-loop-holds Inv-loop μ-loop
 loop-holds c =

@@ -1,11 +1,13 @@
 -- `rows::factor` meets its contract: it tests what `padded` tests.
 -- Assumes nothing.
 use borrow.Author.Needs.{needs}
-use native.Mathlib.Nat.{zero-add}
 use borrow.Author.Tests.{lt-ltb, le-ltb}
 use Rattle.rows.specs.Rows.{padded}
 use Rattle.rows.proofs.factor.Statement.{statement}
 use Rattle.rows.proofs.factor.Tie as tie
+
+add-result : tie.Need-add-result
+add-result c = search needs
 
 mul-result : tie.Need-mul-result
 mul-result c = search needs
@@ -15,11 +17,11 @@ shared-slice-read-result c = search needs
 
 returns : tie.Need-returns
 unfolding padded
-returns c = simp (lt-ltb _ _ (c .before .if1 .taken), zero-add)
+returns c = simp (lt-ltb _ _ (c .before .if1 .taken))
 
 returns-2 : tie.Need-returns-2
 unfolding padded
 returns-2 c = simp (le-ltb _ _ (c .if1 .left))
 
 pub factor-spec : {M : Type 1} → statement M
-factor-spec = tie.close (tie.spec mul-result shared-slice-read-result returns returns-2)
+factor-spec = tie.close (tie.spec add-result mul-result shared-slice-read-result returns returns-2)

@@ -3,10 +3,17 @@
 use borrow.Author.Needs.{needs}
 use native.Mathlib.Omega.{arith}
 use Prim.Native.Nat.{_+_}
-use mathlib.Core.Path.{_∙_}
-use Rattle.rows.proofs.Rows.{reduced-cong}
+use mathlib.Core.Path.{refl, _∙_}
+use Rattle.ring.specs.Work.{part}
+use Rattle.rows.proofs.Rows.{linear-row, row-operands, reduced-cong}
 use Rattle.rows.proofs.multiply_cut.Statement.{statement}
 use Rattle.rows.proofs.multiply_cut.Tie as tie
+
+slice-aggregate-pad : tie.Need-slice-aggregate-pad
+slice-aggregate-pad c = search needs
+
+pad-requires : tie.Need-pad-requires
+pad-requires c κs = search needs
 
 slice-aggregate-all-cut-rows : tie.Need-slice-aggregate-all-cut-rows
 slice-aggregate-all-cut-rows c = search needs
@@ -14,8 +21,14 @@ slice-aggregate-all-cut-rows c = search needs
 slice-aggregate-all-cut-rows-2 : tie.Need-slice-aggregate-all-cut-rows-2
 slice-aggregate-all-cut-rows-2 c = search needs
 
+slice-aggregate-all-cut-rows-3 : tie.Need-slice-aggregate-all-cut-rows-3
+slice-aggregate-all-cut-rows-3 c = search needs
+
 all-cut-rows-requires : tie.Need-all-cut-rows-requires
-all-cut-rows-requires c κs = search needs
+all-cut-rows-requires c κs =
+    let start = c .before .before .before .before .before .before .before .before in
+    let pad = c .before .before .before .before .pad in
+    (row-operands (start .args .m) _ (pad .last .0) (pad .ensures) (omega arith) (omega arith) (omega (arith, pad .kept)) (omega arith) (omega arith) (start .pre .1 .0) (start .pre .1 .1), refl, refl)
 
 slice-aggregate-reduce-cut : tie.Need-slice-aggregate-reduce-cut
 slice-aggregate-reduce-cut c = search needs
@@ -28,24 +41,30 @@ add-reduce-cut c = search needs
 
 reduce-cut-requires : tie.Need-reduce-cut-requires
 reduce-cut-requires c κs =
-    let start = c .before .before .before .before .before .before .before .before .before .before .before in
+    let start = c .before .before .before .before .before .before .before .before .before .before .before .before .before .before in
     let rows = c .before .before .before .before .before .all-cut-rows in
-    ((omega arith, omega (arith, rows .kept), omega (arith, rows .kept), omega arith, omega arith, start .pre .4), ((λ k l. rows .ensures k .low-small), (λ k l. rows .ensures k .high-small)))
+    ((omega arith, omega (arith, rows .kept), omega (arith, rows .kept), omega arith, omega arith, start .pre .0 .5), ((λ k l. rows .ensures k .low-small), (λ k l. rows .ensures k .high-small)))
 
 same-length : tie.Need-same-length
 same-length c = search needs
 
 returns : tie.Need-returns
 returns c =
-    let a = c .before .before .before .before .before .before .before .before .before .before .before .before .before .before .args in
-    c .before .before .reduce-cut .ensures ∙ reduced-cong (a .m + a .m) (a .q) (a .product .now) (λ k. c .before .before .before .before .before .before .before .before .all-cut-rows .ensures k .whole)
+    let a = c .before .before .before .before .before .before .before .before .before .before .before .before .before .before .before .before .before .args in
+    let rows = c .before .before .before .before .before .before .before .before .all-cut-rows in
+    let pad = c .before .before .before .before .before .before .before .before .before .before .before .before .before .pad in
+    c .before .before .reduce-cut .ensures
+    ∙ reduced-cong (a .m + a .m) (a .q) (a .product .now) (λ k. rows .ensures k .whole ∙ linear-row (a .m) _ (pad .last .0) (pad .ensures) (part (a .words .now) 0) k)
 
 pub multiply-cut-spec : {M : Type 1} → statement M
 multiply-cut-spec =
     tie.close
     (tie.spec
+    slice-aggregate-pad
+    pad-requires
     slice-aggregate-all-cut-rows
     slice-aggregate-all-cut-rows-2
+    slice-aggregate-all-cut-rows-3
     all-cut-rows-requires
     slice-aggregate-reduce-cut
     slice-aggregate-reduce-cut-2

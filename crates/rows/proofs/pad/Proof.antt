@@ -12,10 +12,10 @@ use Rattle.rows.proofs.pad.Statement.{statement}
 use Rattle.rows.proofs.pad.Tie as tie
 
 abbrev Inv-loop : tie.InvT-loop
-Inv-loop row₀ words m k₀ row k = (k ≤ m) × (length row₀ ≡ 96) × Writing 7 k (part words m) row₀ row
+Inv-loop row₀ words from m k₀ row k = (k ≤ m) × (length row₀ ≡ 96) × Writing 7 k (part words from) row₀ row
 
 abbrev μ-loop : tie.MeasureT-loop
-μ-loop row₀ words m k₀ row k = m - k
+μ-loop row₀ words from m k₀ row k = m - k
 
 loop-holds : tie.Need-loop-holds Inv-loop μ-loop
 loop-holds c = (omega arith, ap length (c .pre .2) ∙ length-replicate {A = ℕ} 96 0, writing-none _ _ _)
@@ -30,7 +30,7 @@ shared-slice-read-row : tie.Need-shared-slice-read-row Inv-loop μ-loop
 shared-slice-read-row c = omega arith
 
 cast-row : tie.Need-cast-row Inv-loop μ-loop
-cast-row c = omega (arith, c .shared-slice-known .given (c .before .before .before .args .m + c .before .before .loop .k))
+cast-row c = omega (arith, c .shared-slice-known .given (c .before .before .before .args .from + c .before .before .loop .k))
 
 add-row-2 : tie.Need-add-row-2 Inv-loop μ-loop
 add-row-2 c = omega arith
@@ -57,7 +57,7 @@ returns : tie.Need-returns Inv-loop μ-loop
 returns c =
     let start = c .before .before in
     surrounded-written (start .args .m) _ (start .pre .0)
-    (writing-all (c .before .loop .inv .2) (omega arith) ∙ ap (written 7 (tabulate (start .args .m) (part (start .args .words .now) (start .args .m)))) (start .pre .2))
+    (writing-all (c .before .loop .inv .2) (omega arith) ∙ ap (written 7 (tabulate (start .args .m) (part (start .args .words .now) (start .args .from)))) (start .pre .2))
 
 pub pad-spec : {M : Type 1} → statement M
 pad-spec =

@@ -1,0 +1,48 @@
+-- `rows::sums` meets its contract: the rows of what stands at a with what was copied from b sum to the product, which fits a word at each place.
+-- Assumes nothing.
+use borrow.Author.Needs.{needs}
+use native.Mathlib.Omega.{arith}
+use mathlib.Core.Path.{_∙_}
+use Rattle.ring.specs.Work.{part}
+use Rattle.rows.proofs.Rows.{linear-small, linear-row, row-operands}
+use Rattle.rows.proofs.sums.Statement.{statement}
+use Rattle.rows.proofs.sums.Tie as tie
+
+slice-aggregate-pad : tie.Need-slice-aggregate-pad
+slice-aggregate-pad c = search needs
+
+pad-requires : tie.Need-pad-requires
+pad-requires c κs = search needs
+
+slice-aggregate-all-rows : tie.Need-slice-aggregate-all-rows
+slice-aggregate-all-rows c = search needs
+
+all-rows-requires : tie.Need-all-rows-requires
+all-rows-requires c κs =
+    let start = c .before .before .before .before .before .before .before in
+    let a = start .args in
+    let pad = c .before .before .before .pad in (
+      (row-operands (a .m) _ (pad .last .0) (pad .ensures) (omega arith) (omega arith) (omega (arith, pad .kept)) (omega arith) (omega arith) (start .pre .1 .0) (start .pre .1 .1), start .pre .0 .3),
+      (λ k. rw (linear-row (a .m) _ (pad .last .0) (pad .ensures) (part (a .words .now) (a .a)) k)
+          (linear-small (a .m) (a .q) (a .top) _ _ (omega arith) (omega arith) (start .pre .1 .0) (start .pre .1 .1) k)),
+    )
+
+same-length : tie.Need-same-length
+same-length c = search needs
+
+returns : tie.Need-returns
+returns c = λ k.
+    let a = c .before .before .before .before .before .before .before .before .before .before .args in
+    let pad = c .before .before .before .before .before .before .pad in
+    c .before .before .all-rows .ensures k ∙ linear-row (a .m) _ (pad .last .0) (pad .ensures) (part (a .words .now) (a .a)) k
+
+pub sums-spec : {M : Type 1} → statement M
+sums-spec =
+    tie.close
+    (tie.spec
+    slice-aggregate-pad
+    pad-requires
+    slice-aggregate-all-rows
+    all-rows-requires
+    same-length
+    returns)
