@@ -27,7 +27,7 @@ multiply-below-requires : tie.Need-multiply-below-requires
 multiply-below-requires c κs =
     let start = c .before .before .before in
     let a = start .args in
-    (omega arith, (start .pre .0 .4, le-refl (a .q), start .pre .1 .0, reduced-below (a .n) (part (a .work .now) (a .b)) (start .pre .0 .4), λ h. start .pre .1 .1))
+    (omega arith, (start .pre .0 .4, le-refl (a .q), search needs, reduced-below (a .n) (part (a .work .now) (a .b)) (start .pre .0 .4), λ h. start .pre .1 .1))
 
 same-length-2 : tie.Need-same-length-2
 same-length-2 c = search needs
