@@ -9,9 +9,6 @@
 #include "giophantus.h"
 #include "timing.h"
 
-#define MAX_OCTETS ((size_t)MAX_ELEMENTS * MAX_N * 4)
-#define SET set->l, set->q, set->n, set->dx, set->dr, set->mlen
-
 /* The entries of the tables: the library first, then its peers. */
 static const struct entry {
     const char *name;

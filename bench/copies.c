@@ -9,9 +9,6 @@
 #include "giophantus.h"
 #include "timing.h"
 
-#define MAX_OCTETS ((size_t)MAX_ELEMENTS * MAX_N * 4)
-#define SET set->l, set->q, set->n, set->dx, set->dr, set->mlen
-
 /* Every n with four octets a coefficient, then other lengths and l. */
 static const struct set sets[] = {
     SETS_BY_N,

@@ -10,10 +10,14 @@
 #include "ring.h"
 
 #define MAX_ELEMENTS 15
+#define MAX_OCTETS ((size_t)MAX_ELEMENTS * MAX_N * 4)
 
 struct set {
     uint32_t l, q, n, dx, dr, mlen;
 };
+
+/* The numbers of the set that is called `set`, as the calls of the library take them. */
+#define SET set->l, set->q, set->n, set->dx, set->dr, set->mlen
 
 /* A set for each n of the tables. */
 #define SETS_BY_N                                                                                        \
