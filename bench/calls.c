@@ -9,9 +9,6 @@
 #include "giophantus.h"
 #include "timing.h"
 
-#define MAX_OCTETS ((size_t)MAX_ELEMENTS * MAX_N * 4)
-#define SET set->l, set->q, set->n, set->dx, set->dr, set->mlen
-
 /* The entries of the tables: the library first, then its peers. */
 static const struct entry {
     const char *name;
@@ -25,24 +22,24 @@ static const struct entry {
     {"zn_poly", &ring_zn_poly, 0},
     {"zn_poly shared", &ring_zn_poly, 1},
 #endif
+    {"C Karatsuba", &ring_karatsuba, 0},
+    {"C Karatsuba shared", &ring_karatsuba, 1},
     {"C rows", &ring_rows, 0},
     {"naive C", &ring_naive, 0},
 };
 #define ENTRIES (sizeof entries / sizeof entries[0])
 
-static const struct set sets[] = {
-    {4, 467424413, 64, 1, 1, 128},    {4, 467424413, 256, 1, 1, 512},    {4, 467424413, 601, 1, 1, 1202},
-    {4, 467424413, 1201, 1, 1, 2402}, {4, 973190461, 1733, 1, 1, 3466},  {4, 1665292879, 2267, 1, 1, 4534},
-    {2, 100679693, 4096, 1, 1, 4096}, {2, 169894159, 64, 2, 2, 64},
-};
+static const struct set sets[] = {SETS_BY_N, {2, 169894159, 64, 2, 2, 64}};
 
-/* Arguments of the calls, and the outputs of each entry. */
+/* Arguments of the calls, and what an entry has written. */
 static const struct set *set;
 static uint8_t random_octets[4 * MAX_OCTETS];
 static uint8_t secret_key[MAX_N], public_key[MAX_OCTETS], message[MAX_N / 2], ciphertext[MAX_OCTETS];
-static uint8_t out_secret_key[MAX_N], out_public_key[MAX_OCTETS], out_message[MAX_N / 2], out_octets[MAX_OCTETS];
+static struct outputs {
+    uint8_t secret_key[MAX_N], public_key[MAX_OCTETS], message[MAX_N / 2], ciphertext[MAX_OCTETS];
+    uint64_t used;
+} out;
 static uint32_t work[8 * MAX_N];
-static uint64_t used;
 static size_t secret_length, public_length, message_length, ciphertext_length;
 
 static void fail(const char *what)
@@ -60,10 +57,10 @@ static void must(uint32_t answer)
 static void run_keygen(size_t i)
 {
     if (entries[i].ring == NULL)
-        must(giophantus_keygen(SET, random_octets, sizeof random_octets, out_secret_key, secret_length,
-                               out_public_key, public_length, work, 8 * set->n, &used));
+        must(giophantus_keygen(SET, random_octets, sizeof random_octets, out.secret_key, secret_length,
+                               out.public_key, public_length, work, 8 * set->n, &out.used));
     else
-        used = peer_keygen(entries[i].ring, set, random_octets, out_secret_key, out_public_key);
+        out.used = peer_keygen(entries[i].ring, set, random_octets, out.secret_key, out.public_key);
 }
 
 static void run_is_zero(size_t i)
@@ -74,25 +71,25 @@ static void run_is_zero(size_t i)
         must(giophantus_is_zero(SET, secret_key, secret_length, public_key, public_length, work, 8 * set->n, &zero));
     else
         zero = (uint32_t)peer_is_zero(entries[i].ring, set, secret_key, public_key);
-    used = zero;
+    out.used = zero;
 }
 
 static void run_encrypt(size_t i)
 {
     if (entries[i].ring == NULL)
         must(giophantus_encrypt(SET, public_key, public_length, message, message_length, random_octets,
-                                sizeof random_octets, out_octets, ciphertext_length, work, 8 * set->n, &used));
+                                sizeof random_octets, out.ciphertext, ciphertext_length, work, 8 * set->n, &out.used));
     else
-        used = peer_encrypt(entries[i].ring, entries[i].shared, set, public_key, message, random_octets, out_octets);
+        out.used = peer_encrypt(entries[i].ring, entries[i].shared, set, public_key, message, random_octets, out.ciphertext);
 }
 
 static void run_decrypt(size_t i)
 {
     if (entries[i].ring == NULL)
-        must(giophantus_decrypt(SET, secret_key, secret_length, ciphertext, ciphertext_length, out_message,
+        must(giophantus_decrypt(SET, secret_key, secret_length, ciphertext, ciphertext_length, out.message,
                                 message_length, work, 8 * set->n));
     else
-        peer_decrypt(entries[i].ring, set, secret_key, ciphertext, out_message);
+        peer_decrypt(entries[i].ring, set, secret_key, ciphertext, out.message);
 }
 
 static const struct call {
@@ -113,41 +110,35 @@ static int has_entry(const struct call *call, size_t i)
     return !entries[i].shared || (call->shares && set->dx == set->dr);
 }
 
-static void clear_outputs(void)
+static void run_once(const struct call *call, size_t entry, struct outputs *outputs)
 {
-    memset(out_secret_key, 0xAA, sizeof out_secret_key);
-    memset(out_public_key, 0xAA, sizeof out_public_key);
-    memset(out_message, 0xAA, sizeof out_message);
-    memset(out_octets, 0xAA, sizeof out_octets);
-    used = 77;
+    memset(&out, 0xAA, sizeof out);
+    call->run(entry);
+    memcpy(outputs, &out, sizeof out);
+}
+
+static void draw_random_octets(void)
+{
+    size_t i;
+
+    for (i = 0; i < sizeof random_octets; i++)
+        random_octets[i] = (uint8_t)(number() >> 56);
 }
 
 /* Every entry's results have to be the library's, on several random octets. */
 static void check_equal(const struct call *call, int times)
 {
-    static uint8_t want[4][MAX_OCTETS];
-    uint64_t want_used;
+    static struct outputs wanted, got;
     size_t i;
 
     while (times-- > 0) {
-        for (i = 0; i < sizeof random_octets; i++)
-            random_octets[i] = (uint8_t)(number() >> 56);
-        clear_outputs();
-        call->run(0);
-        memcpy(want[0], out_secret_key, sizeof out_secret_key);
-        memcpy(want[1], out_public_key, sizeof out_public_key);
-        memcpy(want[2], out_message, sizeof out_message);
-        memcpy(want[3], out_octets, sizeof out_octets);
-        want_used = used;
+        draw_random_octets();
+        run_once(call, 0, &wanted);
         for (i = 1; i < ENTRIES; i++) {
             if (!has_entry(call, i))
                 continue;
-            clear_outputs();
-            call->run(i);
-            if (memcmp(want[0], out_secret_key, sizeof out_secret_key) != 0 ||
-                memcmp(want[1], out_public_key, sizeof out_public_key) != 0 ||
-                memcmp(want[2], out_message, sizeof out_message) != 0 ||
-                memcmp(want[3], out_octets, sizeof out_octets) != 0 || want_used != used) {
+            run_once(call, i, &got);
+            if (memcmp(&wanted, &got, sizeof got) != 0) {
                 fprintf(stderr, "calls: %s: ", call->name);
                 fail(entries[i].name);
             }
@@ -165,67 +156,63 @@ static void prepare(void)
     public_length = elements(set->dx) * element_octets(set);
     message_length = (set->mlen + 7) / 8;
     ciphertext_length = elements(set->dx + set->dr) * element_octets(set);
-    for (i = 0; i < sizeof random_octets; i++)
-        random_octets[i] = (uint8_t)(number() >> 56);
+    draw_random_octets();
     run_keygen(0);
-    memcpy(secret_key, out_secret_key, secret_length);
-    memcpy(public_key, out_public_key, public_length);
+    memcpy(secret_key, out.secret_key, secret_length);
+    memcpy(public_key, out.public_key, public_length);
     for (i = 0; i < message_length; i++)
         message[i] = (uint8_t)(number() >> 56);
     unused = (8 - set->mlen % 8) % 8;
     if (unused != 0)
         message[message_length - 1] &= (uint8_t)(0xFF >> unused);
     run_encrypt(0);
-    memcpy(ciphertext, out_octets, ciphertext_length);
+    memcpy(ciphertext, out.ciphertext, ciphertext_length);
 }
 
-static void table_of_calls(void)
+/* Starts the ring of each entry, once where entries share it; or ends them. */
+static void for_each_ring(int start)
 {
-    size_t i, k, m;
+    size_t i;
 
-    printf("microseconds; in brackets the library's time as a multiple of that entry's\n\n%-22s", "call, n");
-    for (i = 0; i < ENTRIES; i++)
-        printf(" %18s", entries[i].name);
-    printf("\n");
-    for (k = 0; k < CALLS; k++)
-        for (m = 0; m < sizeof sets / sizeof sets[0]; m++) {
-            double best[ENTRIES];
-            char title[64];
+    for (i = 1; i < ENTRIES; i++) {
+        if (entries[i].ring == entries[i - 1].ring)
+            continue;
+        if (start)
+            entries[i].ring->start(set->n, set->q);
+        else
+            entries[i].ring->end();
+    }
+}
 
-            set = &sets[m];
-            for (i = 1; i < ENTRIES; i++)
-                if (i == 1 || entries[i].ring != entries[i - 1].ring)
-                    entries[i].ring->start(set->n, set->q);
-            prepare();
-            check_equal(&calls[k], set->n > 1201 ? 1 : 3);
-            for (i = 0; i < ENTRIES; i++)
-                best[i] = has_entry(&calls[k], i) ? 1 : -1;
-            take_turns(ENTRIES, calls[k].run, best);
-            for (i = 1; i < ENTRIES; i++)
-                if (i == 1 || entries[i].ring != entries[i - 1].ring)
-                    entries[i].ring->end();
+static void time_call(const struct call *call)
+{
+    struct turn turns[ENTRIES] = {0};
+    size_t i;
 
-            snprintf(title, sizeof title, "%s %u%s", calls[k].name, set->n, set->dx == 2 ? ", degrees 2" : "");
-            printf("%-22s", title);
-            for (i = 0; i < ENTRIES; i++) {
-                if (best[i] < 0)
-                    printf(" %18s", "");
-                else if (i == 0)
-                    printf(" %18.1f", 1e6 * best[i]);
-                else
-                    printf(" %9.1f (%6.2f)", 1e6 * best[i], best[0] / best[i]);
-                if (best[i] >= 0)
-                    record(calls[k].name, entries[i].name, set, best[i]);
-            }
-            printf("\n");
-            fflush(stdout);
-        }
+    for (i = 0; i < ENTRIES; i++) {
+        turns[i].name = entries[i].name;
+        turns[i].left_out = !has_entry(call, i);
+    }
+    if (call == calls && set == sets)
+        print_head(ENTRIES, turns);
+    for_each_ring(1);
+    prepare();
+    check_equal(call, set->n > 1201 ? 1 : 3);
+    take_turns(ENTRIES, call->run, turns);
+    for_each_ring(0);
+    print_row(call->name, set, ENTRIES, turns);
 }
 
 int main(int argc, char **argv)
 {
+    size_t k, m;
+
     open_times(argc > 1 ? argv[1] : NULL);
-    table_of_calls();
+    for (k = 0; k < CALLS; k++)
+        for (m = 0; m < sizeof sets / sizeof sets[0]; m++) {
+            set = &sets[m];
+            time_call(&calls[k]);
+        }
     close_times();
     return 0;
 }

@@ -1,5 +1,6 @@
-/* Addition and the conversions beside memcpy: of the octets, and of the words.  Results are compared
-   before anything is timed; entries take turns.  Usage: copies [TIMES.csv] */
+/* Addition and the conversions beside the same in plain C (as every peer of calls.c has it) and beside memcpy, of
+   the octets and of the words.  Results are compared before anything is timed; entries take turns.
+   Usage: copies [TIMES.csv] */
 
 #include <stdio.h>
 #include <stdlib.h>
@@ -8,12 +9,19 @@
 #include "giophantus.h"
 #include "timing.h"
 
-#define MAX_OCTETS ((size_t)MAX_ELEMENTS * MAX_N * 4)
-#define SET set->l, set->q, set->n, set->dx, set->dr, set->mlen
+/* Every n with four octets a coefficient, then other lengths and l. */
+static const struct set sets[] = {
+    SETS_BY_N,
+    {2, 8659219, 1201, 1, 1, 1201},
+    {8, 33768533, 64, 1, 1, 192},
+    {8, 2147483647, 510, 1, 1, 1530},
+    {16, 2147483629, 115, 1, 1, 460},
+};
 
 static const struct set *set;
-static uint8_t octets[MAX_OCTETS], other[MAX_OCTETS], out_octets[MAX_OCTETS];
+static uint8_t octets[MAX_OCTETS], other[MAX_OCTETS], sums[MAX_OCTETS], out_octets[MAX_OCTETS];
 static uint32_t words[MAX_ELEMENTS * MAX_N], out_words[MAX_ELEMENTS * MAX_N];
+static size_t octets_length, words_length;
 
 static void fail(const char *what)
 {
@@ -27,142 +35,165 @@ static void must(uint32_t answer)
         fail("the library refuses");
 }
 
-/* Entry 0 is the library, 1 a copy of the octets, 2 a copy of the words. */
+static void library_add(void)
+{
+    must(giophantus_add(SET, octets, octets_length, other, octets_length, out_octets, octets_length));
+}
+
+static void library_decode(void)
+{
+    must(giophantus_ciphertext_from_octets(SET, octets, octets_length, out_words, words_length));
+}
+
+static void library_encode(void)
+{
+    must(giophantus_ciphertext_to_octets(SET, words, words_length, out_octets, octets_length));
+}
+
+static void library_unpack(void)
+{
+    must(giophantus_small_from_octets(SET, octets, octets_length, out_words, words_length));
+}
+
+static void library_pack(void)
+{
+    must(giophantus_small_to_octets(SET, words, words_length, out_octets, octets_length));
+}
+
+static void plain_add(void)
+{
+    peer_add(set, octets, other, out_octets);
+}
+
+static void plain_decode(void)
+{
+    peer_decode(set, octets, out_words);
+}
+
+static void plain_encode(void)
+{
+    peer_encode(set, words, out_octets);
+}
+
+static void plain_unpack(void)
+{
+    peer_unpack(set, octets, out_words);
+}
+
+static void plain_pack(void)
+{
+    peer_pack(set, words, out_octets);
+}
+
+static const struct call {
+    const char *name;
+    void (*library)(void);
+    void (*plain)(void);
+    /* The octets that have to come out; NULL where it is the words. */
+    const uint8_t *wanted;
+    /* Whether it is about a small element and not about a ciphertext. */
+    int small;
+} calls[] = {
+    {"add", library_add, plain_add, sums, 0},
+    {"decode", library_decode, plain_decode, NULL, 0},
+    {"encode", library_encode, plain_encode, octets, 0},
+    {"unpack", library_unpack, plain_unpack, NULL, 1},
+    {"pack", library_pack, plain_pack, octets, 1},
+};
+
+static const struct call *call;
 static void *(*volatile copy)(void *, const void *, size_t) = memcpy;
-static size_t octets_length, words_length;
 
-static void copies(size_t i)
+static const char *const names[] = {"library", "plain C", "memcpy of octets", "memcpy of words"};
+#define ENTRIES (sizeof names / sizeof names[0])
+
+static void run(size_t entry)
 {
-    if (i == 1)
-        copy(out_octets, octets, octets_length);
-    else
-        copy(out_words, words, 4 * words_length);
+    switch (entry) {
+    case 0: call->library(); break;
+    case 1: call->plain(); break;
+    case 2: copy(out_octets, octets, octets_length); break;
+    default: copy(out_words, words, 4 * words_length);
+    }
 }
 
-static void run_add(size_t i)
+/* Words below the limit, and their octets by plain C. */
+static void prepare_small(void)
 {
-    if (i == 0)
-        must(giophantus_add(SET, octets, octets_length, other, octets_length, out_octets, octets_length));
-    else
-        copies(i);
-}
-
-static void run_decode(size_t i)
-{
-    if (i == 0)
-        must(giophantus_ciphertext_from_octets(SET, octets, octets_length, out_words, words_length));
-    else
-        copies(i);
-}
-
-static void run_encode(size_t i)
-{
-    if (i == 0)
-        must(giophantus_ciphertext_to_octets(SET, words, words_length, out_octets, octets_length));
-    else
-        copies(i);
-}
-
-static void run_unpack(size_t i)
-{
-    if (i == 0)
-        must(giophantus_small_from_octets(SET, octets, octets_length, out_words, words_length));
-    else
-        copies(i);
-}
-
-static void run_pack(size_t i)
-{
-    if (i == 0)
-        must(giophantus_small_to_octets(SET, words, words_length, out_octets, octets_length));
-    else
-        copies(i);
-}
-
-static void compare_octets(void)
-{
-    if (memcmp(out_octets, octets, octets_length) != 0)
-        fail("octets differ");
-}
-
-static void compare_words(void)
-{
-    if (memcmp(out_words, words, 4 * words_length) != 0)
-        fail("words differ");
-}
-
-/* Fills words and octets with one value below the limit, by plain C, and checks the library. */
-static void prepare_conversion(int small)
-{
-    uint32_t length = qlen(set), b = small_bits(set), limit = small ? set->l : set->q;
+    uint32_t b = small_bits(set);
     size_t i, k;
 
-    words_length = small ? set->n : elements(set->dx + set->dr) * set->n;
-    octets_length = small ? small_octets(set) : words_length * length;
+    words_length = set->n;
+    octets_length = small_octets(set);
     memset(octets, 0, octets_length);
     for (i = 0; i < words_length; i++) {
-        words[i] = (uint32_t)(number() % limit);
-        for (k = 0; small && k < b; k++)
+        words[i] = (uint32_t)(number() % set->l);
+        for (k = 0; k < b; k++)
             octets[(i * b + k) / 8] |= (uint8_t)((words[i] >> k & 1) << (i * b + k) % 8);
-        for (k = 0; !small && k < length; k++)
-            octets[i * length + k] = (uint8_t)(words[i] >> 8 * k);
     }
 }
 
-static void row_of_copies(const char *name, void (*run)(size_t))
+static void prepare_ciphertext(void)
 {
-    double best[3] = {1, 1, 1};
-
-    take_turns(3, run, best);
-    printf("%-10s %6u %3u %6u %12.3f %12.3f (%5.2f) %12.3f (%5.2f)\n", name, set->n, set->l, qlen(set), 1e6 * best[0],
-           1e6 * best[1], best[0] / best[1], 1e6 * best[2], best[0] / best[2]);
-    record(name, "library", set, best[0]);
-    record(name, "memcpy of octets", set, best[1]);
-    record(name, "memcpy of words", set, best[2]);
-    fflush(stdout);
-}
-
-static void table_of_copies(void)
-{
-    static const struct set list[] = {
-        {4, 467424413, 1201, 1, 1, 2402}, {2, 8659219, 1201, 1, 1, 1201}, {2, 100679693, 4096, 1, 1, 4096},
-        {8, 33768533, 64, 1, 1, 192},     {8, 2147483647, 510, 1, 1, 1530}, {16, 2147483629, 115, 1, 1, 460},
-    };
+    uint32_t length = qlen(set);
     size_t i, k;
 
-    printf("microseconds; in brackets the library's time as a multiple\n\n%-10s %6s %3s %6s %12s %20s %20s\n", "call", "n", "l", "qlen", "library", "memcpy of octets",
-           "memcpy of words");
-    for (i = 0; i < sizeof list / sizeof list[0]; i++) {
-        set = &list[i];
-        prepare_conversion(0);
-        memcpy(other, octets, octets_length);
-        for (k = 0; k < words_length; k++)
-            out_words[k] = (uint32_t)(2 * (uint64_t)words[k] % set->q);
-        must(giophantus_add(SET, octets, octets_length, other, octets_length, out_octets, octets_length));
-        for (k = 0; k < octets_length; k++)
-            if (out_octets[k] != (uint8_t)(out_words[k / qlen(set)] >> 8 * (k % qlen(set))))
-                fail("sums differ");
-        row_of_copies("add", run_add);
-        run_decode(0);
-        compare_words();
-        row_of_copies("decode", run_decode);
-        run_encode(0);
-        compare_octets();
-        row_of_copies("encode", run_encode);
-        prepare_conversion(1);
-        run_unpack(0);
-        compare_words();
-        row_of_copies("unpack", run_unpack);
-        run_pack(0);
-        compare_octets();
-        row_of_copies("pack", run_pack);
+    words_length = elements(set->dx + set->dr) * set->n;
+    octets_length = words_length * length;
+    for (i = 0; i < words_length; i++) {
+        uint32_t second = (uint32_t)(number() % set->q);
+
+        words[i] = (uint32_t)(number() % set->q);
+        for (k = 0; k < length; k++) {
+            octets[i * length + k] = (uint8_t)(words[i] >> 8 * k);
+            other[i * length + k] = (uint8_t)(second >> 8 * k);
+            sums[i * length + k] = (uint8_t)(((uint64_t)words[i] + second) % set->q >> 8 * k);
+        }
     }
+}
+
+static void check_equal(size_t entry)
+{
+    memset(out_octets, 0xAA, sizeof out_octets);
+    memset(out_words, 0xAA, sizeof out_words);
+    run(entry);
+    if (call->wanted != NULL ? memcmp(out_octets, call->wanted, octets_length) != 0
+                             : memcmp(out_words, words, 4 * words_length) != 0) {
+        fprintf(stderr, "copies: %s: ", call->name);
+        fail(names[entry]);
+    }
+}
+
+static void time_call(void)
+{
+    struct turn turns[ENTRIES] = {0};
+    size_t i;
+
+    for (i = 0; i < ENTRIES; i++)
+        turns[i].name = names[i];
+    if (call == calls && set == sets)
+        print_head(ENTRIES, turns);
+    if (call->small)
+        prepare_small();
+    else
+        prepare_ciphertext();
+    check_equal(0);
+    check_equal(1);
+    take_turns(ENTRIES, run, turns);
+    print_row(call->name, set, ENTRIES, turns);
 }
 
 int main(int argc, char **argv)
 {
+    size_t k, m;
+
     open_times(argc > 1 ? argv[1] : NULL);
-    table_of_copies();
+    for (k = 0; k < sizeof calls / sizeof calls[0]; k++)
+        for (m = 0; m < sizeof sets / sizeof sets[0]; m++) {
+            call = &calls[k];
+            set = &sets[m];
+            time_call();
+        }
     close_times();
     return 0;
 }

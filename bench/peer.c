@@ -2,6 +2,7 @@
 
 #include <string.h>
 
+#include "modular.h"
 #include "peer.h"
 
 typedef uint32_t element[MAX_N];
@@ -71,16 +72,22 @@ static void get_element(const struct set *s, const uint8_t *octets, uint32_t *wo
 {
     uint32_t i, length = qlen(s);
 
-    for (i = 0; i < s->n; i++)
-        words[i] = get_number(octets + (size_t)i * length, length);
+    if (length == 4)
+        memcpy(words, octets, element_octets(s));
+    else
+        for (i = 0; i < s->n; i++)
+            words[i] = get_number(octets + (size_t)i * length, length);
 }
 
 static void put_element(const struct set *s, const uint32_t *words, uint8_t *octets)
 {
     uint32_t i, length = qlen(s);
 
-    for (i = 0; i < s->n; i++)
-        put_number(octets + (size_t)i * length, length, words[i]);
+    if (length == 4)
+        memcpy(octets, words, element_octets(s));
+    else
+        for (i = 0; i < s->n; i++)
+            put_number(octets + (size_t)i * length, length, words[i]);
 }
 
 /* `count` coefficients of b bits, through a window of the octets. */
@@ -114,18 +121,6 @@ static void pack(const struct set *s, const uint32_t *words, uint32_t count, uin
     }
     if (have > 0)
         *octets = (uint8_t)window;
-}
-
-static uint32_t add_mod(uint32_t a, uint32_t b, uint32_t q)
-{
-    uint32_t x = a + b;
-
-    return x >= q ? x - q : x;
-}
-
-static uint32_t sub_mod(uint32_t a, uint32_t b, uint32_t q)
-{
-    return a >= b ? a - b : a + q - b;
 }
 
 static void add_element(const struct set *s, uint32_t *a, const uint32_t *b)
@@ -329,4 +324,43 @@ void peer_decrypt(const struct ring *r, const struct set *s, const uint8_t *secr
     for (i = 0; i < s->n; i++)
         w[i] &= s->l - 1;
     pack(s, w, s->mlen / small_bits(s), message);
+}
+
+void peer_add(const struct set *s, const uint8_t *a, const uint8_t *b, uint8_t *sum)
+{
+    size_t k, at;
+
+    for (k = 0; k < elements(s->dx + s->dr); k++) {
+        at = k * element_octets(s);
+        get_element(s, a + at, one);
+        get_element(s, b + at, two);
+        add_element(s, one, two);
+        put_element(s, one, sum + at);
+    }
+}
+
+void peer_decode(const struct set *s, const uint8_t *octets, uint32_t *words)
+{
+    size_t k;
+
+    for (k = 0; k < elements(s->dx + s->dr); k++)
+        get_element(s, octets + k * element_octets(s), words + k * s->n);
+}
+
+void peer_encode(const struct set *s, const uint32_t *words, uint8_t *octets)
+{
+    size_t k;
+
+    for (k = 0; k < elements(s->dx + s->dr); k++)
+        put_element(s, words + k * s->n, octets + k * element_octets(s));
+}
+
+void peer_unpack(const struct set *s, const uint8_t *octets, uint32_t *words)
+{
+    unpack(s, octets, s->n, words);
+}
+
+void peer_pack(const struct set *s, const uint32_t *words, uint8_t *octets)
+{
+    pack(s, words, s->n, octets);
 }

@@ -9,12 +9,21 @@
 
 #include "ring.h"
 
-#define MAX_N 4096
 #define MAX_ELEMENTS 15
+#define MAX_OCTETS ((size_t)MAX_ELEMENTS * MAX_N * 4)
 
 struct set {
     uint32_t l, q, n, dx, dr, mlen;
 };
+
+/* The numbers of the set that is called `set`, as the calls of the library take them. */
+#define SET set->l, set->q, set->n, set->dx, set->dr, set->mlen
+
+/* A set for each n of the tables. */
+#define SETS_BY_N                                                                                        \
+    {4, 467424413, 64, 1, 1, 128}, {4, 467424413, 256, 1, 1, 512}, {4, 467424413, 601, 1, 1, 1202},      \
+        {4, 467424413, 1201, 1, 1, 2402}, {4, 973190461, 1733, 1, 1, 3466},                              \
+        {4, 1665292879, 2267, 1, 1, 4534}, {2, 100679693, 4096, 1, 1, 4096}
 
 /* Lengths in octets, monomials and bits of an accepted set. */
 size_t elements(uint32_t degree);
@@ -32,5 +41,12 @@ uint64_t peer_encrypt(const struct ring *r, int shared, const struct set *s, con
                       const uint8_t *message, const uint8_t *random, uint8_t *ciphertext);
 void peer_decrypt(const struct ring *r, const struct set *s, const uint8_t *secret_key, const uint8_t *ciphertext,
                   uint8_t *message);
+
+/* Ciphertexts, and small elements of n coefficients. */
+void peer_add(const struct set *s, const uint8_t *a, const uint8_t *b, uint8_t *sum);
+void peer_decode(const struct set *s, const uint8_t *octets, uint32_t *words);
+void peer_encode(const struct set *s, const uint32_t *words, uint8_t *octets);
+void peer_unpack(const struct set *s, const uint8_t *octets, uint32_t *words);
+void peer_pack(const struct set *s, const uint32_t *words, uint8_t *octets);
 
 #endif

@@ -7,6 +7,7 @@
 
 #include <stdint.h>
 
+#define MAX_N 4096
 #define SLOTS 16
 #define SUMS 16
 
@@ -23,7 +24,7 @@ struct ring {
     void (*take)(int sum, uint32_t *words);
 };
 
-extern const struct ring ring_flint, ring_rows, ring_naive;
+extern const struct ring ring_flint, ring_karatsuba, ring_rows, ring_naive;
 #ifdef HAVE_ZN_POLY
 extern const struct ring ring_zn_poly;
 #endif

@@ -48,7 +48,7 @@ static void load(int slot, const uint32_t *words)
    padded by a copy. */
 static void mul_add(int sum, int a, int b)
 {
-    static uint32_t padded[4096 + 6];
+    static uint32_t padded[MAX_N + 6];
     const uint32_t *x = slots[a];
     const uint32_t *y = padded + 3;
     uint32_t i, k;

@@ -1,14 +1,12 @@
-/* Times of several entries that take turns, and a generator of test numbers. */
+/* Times of several entries that take turns, their table, and a generator of test numbers. */
 
 #include <stdlib.h>
 #include <time.h>
 
 #include "timing.h"
 
-#define RUNS 3
-#define ROUNDS 20
 /* A slow entry leaves the turns after this time. */
-#define MOST_SECONDS 4.0
+#define MOST_SECONDS 10.0
 /* A fast one is repeated until it takes this long. */
 #define LEAST_SECONDS 5e-5
 
@@ -34,32 +32,88 @@ static double seconds(void (*run)(size_t), size_t entry, size_t repeats)
     return (now() - start) / (double)repeats;
 }
 
-void take_turns(size_t count, void (*run)(size_t), double *best)
+/* How often an entry is run in one turn; a first run warms it up. */
+static size_t repeats_of(void (*run)(size_t), size_t entry)
 {
-    double spent[16] = {0};
-    size_t repeats[16], i;
+    size_t repeats = 1;
+
+    run(entry);
+    while (seconds(run, entry, repeats) * (double)repeats < LEAST_SECONDS)
+        repeats *= 2;
+    return repeats;
+}
+
+static void take_turn(void (*run)(size_t), size_t entry, size_t repeats, struct turn *turn)
+{
+    double time = seconds(run, entry, repeats);
+
+    if (turn->rounds == 0 || time < turn->best)
+        turn->best = time;
+    turn->spent += time * (double)repeats;
+    turn->rounds++;
+}
+
+void take_turns(size_t count, void (*run)(size_t), struct turn *turns)
+{
+    size_t repeats[MOST_ENTRIES] = {0}, i;
     int round;
 
-    for (i = 0; i < count; i++) {
-        repeats[i] = 1;
-        if (best[i] < 0)
-            continue;
-        run(i);
-        best[i] = seconds(run, i, 1);
-        if (best[i] < LEAST_SECONDS)
-            repeats[i] = (size_t)(LEAST_SECONDS / (best[i] + 1e-8)) + 1;
-    }
+    for (i = 0; i < count; i++)
+        if (!turns[i].left_out)
+            repeats[i] = repeats_of(run, i);
     for (round = 0; round < RUNS * ROUNDS; round++)
-        for (i = 0; i < count; i++) {
-            double time;
+        for (i = 0; i < count; i++)
+            if (!turns[i].left_out && turns[i].spent < MOST_SECONDS)
+                take_turn(run, i, repeats[i], &turns[i]);
+}
 
-            if (best[i] < 0 || spent[i] > MOST_SECONDS)
-                continue;
-            time = seconds(run, i, repeats[i]);
-            spent[i] += time * (double)repeats[i];
-            if (time < best[i])
-                best[i] = time;
+void print_head(size_t count, const struct turn *turns)
+{
+    size_t i;
+
+    printf("microseconds, the least of %d runs of %d rounds, or of as many as are said behind a row; in brackets the %s's\n"
+           "time as a multiple of that entry's\n\n%-30s %11s",
+           RUNS, ROUNDS, turns[0].name, "call, n, l, octets of q", turns[0].name);
+    for (i = 1; i < count; i++)
+        printf(" %20s", turns[i].name);
+    printf("\n");
+}
+
+static void record(const char *call, const struct set *s, const struct turn *turn)
+{
+    if (times != NULL)
+        fprintf(times, "%s,%s,%u,%u,%u,%u,%u,%d,%.6g\n", call, turn->name, s->l, s->q, s->n, s->dx, s->dr,
+                turn->rounds, turn->best);
+}
+
+/* The entries that took fewer rounds, behind a row. */
+static void print_rounds(size_t count, const struct turn *turns)
+{
+    size_t i;
+
+    for (i = 0; i < count; i++)
+        if (!turns[i].left_out && turns[i].rounds < RUNS * ROUNDS)
+            printf("  %s: %d rounds", turns[i].name, turns[i].rounds);
+    printf("\n");
+    fflush(stdout);
+}
+
+void print_row(const char *call, const struct set *s, size_t count, const struct turn *turns)
+{
+    size_t i;
+
+    printf("%-7s %4u, %2u, %u%-11s %11.3f", call, s->n, s->l, qlen(s), s->dx == 2 ? ", degrees 2" : "",
+           1e6 * turns[0].best);
+    record(call, s, &turns[0]);
+    for (i = 1; i < count; i++) {
+        if (turns[i].left_out) {
+            printf(" %20s", "");
+            continue;
         }
+        printf(" %11.3f (%6.2f)", 1e6 * turns[i].best, turns[0].best / turns[i].best);
+        record(call, s, &turns[i]);
+    }
+    print_rounds(count, turns);
 }
 
 void open_times(const char *name)
@@ -72,13 +126,7 @@ void open_times(const char *name)
         perror(name);
         exit(1);
     }
-    fprintf(times, "call,entry,l,q,n,dx,dr,seconds\n");
-}
-
-void record(const char *call, const char *entry, const struct set *s, double time)
-{
-    if (times != NULL)
-        fprintf(times, "%s,%s,%u,%u,%u,%u,%u,%.9f\n", call, entry, s->l, s->q, s->n, s->dx, s->dr, time);
+    fprintf(times, "call,entry,l,q,n,dx,dr,rounds,seconds\n");
 }
 
 void close_times(void)

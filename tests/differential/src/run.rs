@@ -10,6 +10,9 @@ use reference::Set;
 
 use crate::buffer::Checked;
 
+/// In a short run one set in so many is taken.
+const SHORT: u64 = 8;
+
 /// The seed of a run that names none.
 const SEED: u64 = 0x6769_6F70_6861_6E74;
 
@@ -30,6 +33,8 @@ pub struct Run {
     pub prng: Prng,
     seed: u64,
     trace: bool,
+    short: bool,
+    sets: u64,
     calls: u64,
     /// How often each call answered each number.
     seen: BTreeMap<(&'static str, u32), u64>,
@@ -41,9 +46,17 @@ impl Run {
             prng: Prng::new(seed),
             seed,
             trace: false,
+            short: false,
+            sets: 0,
             calls: 0,
             seen: BTreeMap::new(),
         }
+    }
+
+    /// Whether the next set is to be left out, as most are in a short run (`--short`).
+    pub fn skips(&mut self) -> bool {
+        self.sets += 1;
+        self.short && !self.sets.is_multiple_of(SHORT)
     }
 
     /// Says what is about to be called, where the run was asked to (`--trace`): the last line before
@@ -125,6 +138,7 @@ struct Arguments {
     /// At least this long; one round where it is `None`.
     time: Option<Duration>,
     trace: bool,
+    short: bool,
 }
 
 fn arguments(group: &str) -> Arguments {
@@ -132,6 +146,7 @@ fn arguments(group: &str) -> Arguments {
         seed: SEED,
         time: None,
         trace: false,
+        short: false,
     };
     let mut words = env::args().skip(1);
     while let Some(word) = words.next() {
@@ -156,6 +171,7 @@ fn arguments(group: &str) -> Arguments {
                 found.time = Some(Duration::from_secs_f64(60.0 * minutes));
             }
             "--trace" => found.trace = true,
+            "--short" => found.short = true,
             other => usage(group, &format!("{other} isn't known")),
         }
     }
@@ -163,7 +179,7 @@ fn arguments(group: &str) -> Arguments {
 }
 
 fn usage(group: &str, problem: &str) -> ! {
-    eprintln!("{group}: {problem}\nusage: {group} [--seed S] [--minutes M] [--trace]");
+    eprintln!("{group}: {problem}\nusage: {group} [--seed S] [--minutes M] [--trace] [--short]");
     exit(2)
 }
 
@@ -181,6 +197,7 @@ pub fn run_group(
     loop {
         let mut run = Run::new(arguments.seed.wrapping_add(rounds));
         run.trace = arguments.trace;
+        run.short = arguments.short;
         round(&mut run);
         for &(call, list) in numbers {
             for &number in list {

@@ -11,6 +11,9 @@ fn round(run: &mut Run) {
         for l in RANGES {
             for degrees in DEGREES {
                 for set in sets_with(l, n, degrees, &mut run.prng) {
+                    if run.skips() {
+                        continue;
+                    }
                     additions::sums(run, set, &[]);
                     additions::refusals(run, set, if n < 100 { 20 } else { 0 });
                 }

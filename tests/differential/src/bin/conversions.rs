@@ -201,7 +201,9 @@ fn round(run: &mut Run) {
                 }
                 for set in sets {
                     qlens[set.qlen()] = true;
-                    one_set(run, set);
+                    if !run.skips() {
+                        one_set(run, set);
+                    }
                 }
             }
         }

@@ -31,7 +31,7 @@ pub fn all(run: &mut Run) {
                 for s in (1..=6).filter(|s| *s <= (MOST_Q - 1) / at) {
                     // q = s * B has headroom s - 1, the next has s.
                     for q in [s * at, s * at + 1] {
-                        if q > at {
+                        if q > at && !run.skips() {
                             worst(run, set(q));
                         }
                     }
@@ -39,7 +39,9 @@ pub fn all(run: &mut Run) {
                 doubled(run, set(MOST_Q));
                 let sets = sets_with(l, n, (dx, dr), &mut run.prng);
                 for set in sets {
-                    ledger(run, set, 12);
+                    if !run.skips() {
+                        ledger(run, set, 12);
+                    }
                 }
             }
         }

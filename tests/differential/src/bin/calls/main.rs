@@ -20,6 +20,9 @@ fn small_rings(run: &mut Run) {
             for degrees in DEGREES {
                 for set in sets_with(l, n, degrees, &mut run.prng) {
                     seen[at][set.qlen()] = true;
+                    if run.skips() {
+                        continue;
+                    }
                     scenario::all(run, set);
                     scenario::draws(run, set, 3);
                     refusals::all(run, set, 20);
@@ -52,6 +55,9 @@ fn middle_rings(run: &mut Run) {
         let (l, degrees) = list[run.prng.below(list.len() as u64) as usize];
         let sets = sets_with(l, n, degrees, &mut run.prng);
         let set = sets[run.prng.below(sets.len() as u64) as usize];
+        if run.skips() {
+            continue;
+        }
         scenario::once(run, set);
         scenario::top(run, set);
     }
@@ -81,6 +87,9 @@ fn large_rings(run: &mut Run) {
         for degrees in DEGREES {
             for n in [64, largest_n(l, degrees.0 + degrees.1)] {
                 for set in tight(l, n, degrees, run) {
+                    if run.skips() {
+                        continue;
+                    }
                     if n > 2000 && set.q == MOST_Q {
                         scenario::top(run, set);
                     } else if n > 2000 {
@@ -95,6 +104,9 @@ fn large_rings(run: &mut Run) {
         }
     }
     for set in tight(4, 1201, (1, 1), run) {
+        if run.skips() {
+            continue;
+        }
         let partial = Set {
             mlen: set.mlen / 3 * 2,
             ..set
@@ -111,7 +123,9 @@ fn large_rings(run: &mut Run) {
         dr: 1,
         mlen: 2402,
     };
-    scenario::all(run, table_5);
+    if !run.skips() {
+        scenario::all(run, table_5);
+    }
     let blank = Set {
         l: 2,
         q: 100_679_684,
