@@ -30,6 +30,7 @@ static const struct entry {
 #define ENTRIES (sizeof entries / sizeof entries[0])
 
 static const struct set sets[] = {SETS_BY_N, {2, 169894159, 64, 2, 2, 64}};
+#define SETS (sizeof sets / sizeof sets[0])
 
 /* Arguments of the calls, and what an entry has written. */
 static const struct set *set;
@@ -103,17 +104,24 @@ static const struct call {
     {"encrypt", run_encrypt, 1},
     {"decrypt", run_decrypt, 0},
 };
-#define CALLS (sizeof calls / sizeof calls[0])
+#define ROWS (sizeof calls / sizeof calls[0] * SETS)
 
-static int has_entry(const struct call *call, size_t i)
+static const struct call *call;
+
+static void run(size_t entry)
+{
+    call->run(entry);
+}
+
+static int has_entry(size_t i)
 {
     return !entries[i].shared || (call->shares && set->dx == set->dr);
 }
 
-static void run_once(const struct call *call, size_t entry, struct outputs *outputs)
+static void run_once(size_t entry, struct outputs *outputs)
 {
     memset(&out, 0xAA, sizeof out);
-    call->run(entry);
+    run(entry);
     memcpy(outputs, &out, sizeof out);
 }
 
@@ -126,18 +134,18 @@ static void draw_random_octets(void)
 }
 
 /* Every entry's results have to be the library's, on several random octets. */
-static void check_equal(const struct call *call, int times)
+static void check_equal(int times)
 {
     static struct outputs wanted, got;
     size_t i;
 
     while (times-- > 0) {
         draw_random_octets();
-        run_once(call, 0, &wanted);
+        run_once(0, &wanted);
         for (i = 1; i < ENTRIES; i++) {
-            if (!has_entry(call, i))
+            if (!has_entry(i))
                 continue;
-            run_once(call, i, &got);
+            run_once(i, &got);
             if (memcmp(&wanted, &got, sizeof got) != 0) {
                 fprintf(stderr, "calls: %s: ", call->name);
                 fail(entries[i].name);
@@ -184,35 +192,41 @@ static void for_each_ring(int start)
     }
 }
 
-static void time_call(const struct call *call)
+/* The rows are the calls, and for each call the sets. */
+static void choose(size_t row)
 {
-    struct turn turns[ENTRIES] = {0};
-    size_t i;
+    call = &calls[row / SETS];
+    set = &sets[row % SETS];
+}
 
-    for (i = 0; i < ENTRIES; i++) {
-        turns[i].name = entries[i].name;
-        turns[i].left_out = !has_entry(call, i);
-    }
-    if (call == calls && set == sets)
-        print_head(ENTRIES, turns);
+static void enter(size_t row)
+{
+    choose(row);
     for_each_ring(1);
     prepare();
-    check_equal(call, set->n > 1201 ? 1 : 3);
-    take_turns(ENTRIES, call->run, turns);
+    check_equal(set->n > 1201 ? 1 : 3);
+}
+
+static void leave(void)
+{
     for_each_ring(0);
-    print_row(call->name, set, ENTRIES, turns);
 }
 
 int main(int argc, char **argv)
 {
-    size_t k, m;
+    static struct row rows[ROWS];
+    const struct table table = {ROWS, ENTRIES, rows, enter, leave, run};
+    size_t row, i;
 
-    open_times(argc > 1 ? argv[1] : NULL);
-    for (k = 0; k < CALLS; k++)
-        for (m = 0; m < sizeof sets / sizeof sets[0]; m++) {
-            set = &sets[m];
-            time_call(&calls[k]);
+    for (row = 0; row < ROWS; row++) {
+        choose(row);
+        rows[row].call = call->name;
+        rows[row].set = set;
+        for (i = 0; i < ENTRIES; i++) {
+            rows[row].turns[i].name = entries[i].name;
+            rows[row].turns[i].left_out = !has_entry(i);
         }
-    close_times();
+    }
+    time_table(&table, argc > 1 ? argv[1] : NULL);
     return 0;
 }

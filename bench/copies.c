@@ -17,6 +17,7 @@ static const struct set sets[] = {
     {8, 2147483647, 510, 1, 1, 1530},
     {16, 2147483629, 115, 1, 1, 460},
 };
+#define SETS (sizeof sets / sizeof sets[0])
 
 static const struct set *set;
 static uint8_t octets[MAX_OCTETS], other[MAX_OCTETS], sums[MAX_OCTETS], out_octets[MAX_OCTETS];
@@ -100,6 +101,7 @@ static const struct call {
     {"unpack", library_unpack, plain_unpack, NULL, 1},
     {"pack", library_pack, plain_pack, octets, 1},
 };
+#define ROWS (sizeof calls / sizeof calls[0] * SETS)
 
 static const struct call *call;
 static void *(*volatile copy)(void *, const void *, size_t) = memcpy;
@@ -164,36 +166,34 @@ static void check_equal(size_t entry)
     }
 }
 
-static void time_call(void)
+/* The rows are the calls, and for each call the sets. */
+static void enter(size_t row)
 {
-    struct turn turns[ENTRIES] = {0};
-    size_t i;
-
-    for (i = 0; i < ENTRIES; i++)
-        turns[i].name = names[i];
-    if (call == calls && set == sets)
-        print_head(ENTRIES, turns);
+    call = &calls[row / SETS];
+    set = &sets[row % SETS];
     if (call->small)
         prepare_small();
     else
         prepare_ciphertext();
     check_equal(0);
     check_equal(1);
-    take_turns(ENTRIES, run, turns);
-    print_row(call->name, set, ENTRIES, turns);
+}
+
+static void leave(void)
+{
 }
 
 int main(int argc, char **argv)
 {
-    size_t k, m;
+    static struct row rows[ROWS];
+    const struct table table = {ROWS, ENTRIES, rows, enter, leave, run};
+    size_t k, i;
 
-    open_times(argc > 1 ? argv[1] : NULL);
-    for (k = 0; k < sizeof calls / sizeof calls[0]; k++)
-        for (m = 0; m < sizeof sets / sizeof sets[0]; m++) {
-            call = &calls[k];
-            set = &sets[m];
-            time_call();
-        }
-    close_times();
+    for (k = 0; k < ROWS; k++) {
+        rows[k] = (struct row){.call = calls[k / SETS].name, .set = &sets[k % SETS]};
+        for (i = 0; i < ENTRIES; i++)
+            rows[k].turns[i].name = names[i];
+    }
+    time_table(&table, argc > 1 ? argv[1] : NULL);
     return 0;
 }

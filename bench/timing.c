@@ -8,10 +8,7 @@
 /* A slow entry leaves the turns after this time. */
 #define MOST_SECONDS 10.0
 /* A fast one is repeated until it takes this long. */
-#define LEAST_SECONDS 5e-5
-
-static FILE *times;
-static const char *times_name;
+#define LEAST_SECONDS 2e-4
 
 /* The processor time of this thread: another program's turn on the processor doesn't count. */
 static double now(void)
@@ -53,21 +50,36 @@ static void take_turn(void (*run)(size_t), size_t entry, size_t repeats, struct 
     turn->rounds++;
 }
 
-void take_turns(size_t count, void (*run)(size_t), struct turn *turns)
+static void take_turns(size_t count, void (*run)(size_t), struct turn *turns)
 {
     size_t repeats[MOST_ENTRIES] = {0}, i;
     int round;
 
     for (i = 0; i < count; i++)
-        if (!turns[i].left_out)
+        if (!turns[i].left_out && turns[i].spent < MOST_SECONDS)
             repeats[i] = repeats_of(run, i);
-    for (round = 0; round < RUNS * ROUNDS; round++)
+    for (round = 0; round < ROUNDS; round++)
         for (i = 0; i < count; i++)
-            if (!turns[i].left_out && turns[i].spent < MOST_SECONDS)
+            if (repeats[i] != 0 && turns[i].spent < MOST_SECONDS)
                 take_turn(run, i, repeats[i], &turns[i]);
 }
 
-void print_head(size_t count, const struct turn *turns)
+static void take_runs(const struct table *table)
+{
+    size_t row;
+    int run;
+
+    for (run = 1; run <= RUNS; run++) {
+        fprintf(stderr, "run %d of %d\n", run, RUNS);
+        for (row = 0; row < table->count; row++) {
+            table->enter(row);
+            take_turns(table->entries, table->run, table->rows[row].turns);
+            table->leave();
+        }
+    }
+}
+
+static void print_head(size_t count, const struct turn *turns)
 {
     size_t i;
 
@@ -79,62 +91,62 @@ void print_head(size_t count, const struct turn *turns)
     printf("\n");
 }
 
-static void record(const char *call, const struct set *s, const struct turn *turn)
+static void print_row(const struct row *row, size_t count)
 {
-    if (times != NULL)
-        fprintf(times, "%s,%s,%u,%u,%u,%u,%u,%d,%.6g\n", call, turn->name, s->l, s->q, s->n, s->dx, s->dr,
-                turn->rounds, turn->best);
-}
-
-/* The entries that took fewer rounds, behind a row. */
-static void print_rounds(size_t count, const struct turn *turns)
-{
+    const struct turn *turns = row->turns;
+    const struct set *s = row->set;
     size_t i;
 
+    printf("%-7s %4u, %2u, %u%-11s %11.3f", row->call, s->n, s->l, qlen(s), s->dx == 2 ? ", degrees 2" : "",
+           1e6 * turns[0].best);
+    for (i = 1; i < count; i++)
+        if (turns[i].left_out)
+            printf(" %20s", "");
+        else
+            printf(" %11.3f (%6.2f)", 1e6 * turns[i].best, turns[0].best / turns[i].best);
     for (i = 0; i < count; i++)
         if (!turns[i].left_out && turns[i].rounds < RUNS * ROUNDS)
             printf("  %s: %d rounds", turns[i].name, turns[i].rounds);
     printf("\n");
-    fflush(stdout);
 }
 
-void print_row(const char *call, const struct set *s, size_t count, const struct turn *turns)
+static void write_row(FILE *file, const struct row *row, size_t count)
 {
+    const struct set *s = row->set;
     size_t i;
 
-    printf("%-7s %4u, %2u, %u%-11s %11.3f", call, s->n, s->l, qlen(s), s->dx == 2 ? ", degrees 2" : "",
-           1e6 * turns[0].best);
-    record(call, s, &turns[0]);
-    for (i = 1; i < count; i++) {
-        if (turns[i].left_out) {
-            printf(" %20s", "");
-            continue;
-        }
-        printf(" %11.3f (%6.2f)", 1e6 * turns[i].best, turns[0].best / turns[i].best);
-        record(call, s, &turns[i]);
-    }
-    print_rounds(count, turns);
+    for (i = 0; i < count; i++)
+        if (!row->turns[i].left_out)
+            fprintf(file, "%s,%s,%u,%u,%u,%u,%u,%d,%.6g\n", row->call, row->turns[i].name, s->l, s->q, s->n, s->dx,
+                    s->dr, row->turns[i].rounds, row->turns[i].best);
 }
 
-void open_times(const char *name)
+static void write_times(const struct table *table, const char *name)
 {
-    times_name = name;
-    if (name == NULL)
-        return;
-    times = fopen(name, "w");
-    if (times == NULL) {
+    FILE *file = fopen(name, "w");
+    size_t row;
+
+    if (file != NULL) {
+        fprintf(file, "call,entry,l,q,n,dx,dr,rounds,seconds\n");
+        for (row = 0; row < table->count; row++)
+            write_row(file, &table->rows[row], table->entries);
+    }
+    if (file == NULL || fclose(file) != 0) {
         perror(name);
         exit(1);
     }
-    fprintf(times, "call,entry,l,q,n,dx,dr,rounds,seconds\n");
 }
 
-void close_times(void)
+void time_table(const struct table *table, const char *file)
 {
-    if (times != NULL && fclose(times) != 0) {
-        perror(times_name);
-        exit(1);
-    }
+    size_t row;
+
+    take_runs(table);
+    print_head(table->entries, table->rows[0].turns);
+    for (row = 0; row < table->count; row++)
+        print_row(&table->rows[row], table->entries);
+    if (file != NULL)
+        write_times(table, file);
 }
 
 uint64_t number(void)

@@ -13,7 +13,7 @@
 #define ROUNDS 20
 #define MOST_ENTRIES 16
 
-/* An entry of a table: its least processor time in seconds, over how many rounds, and all that they took. */
+/* An entry of a row: its least processor time in seconds, over how many rounds, and all that they took. */
 struct turn {
     const char *name;
     int left_out;
@@ -21,17 +21,26 @@ struct turn {
     int rounds;
 };
 
-/* RUNS times ROUNDS rounds of the entries that aren't left out, at most MOST_ENTRIES; a slow entry takes fewer. */
-void take_turns(size_t count, void (*run)(size_t), struct turn *turns);
+/* A call with a set; every row of a table has the same entries. */
+struct row {
+    const char *call;
+    const struct set *set;
+    struct turn turns[MOST_ENTRIES];
+};
 
-/* The table: its head, and a row with the first entry's time as a multiple of each other one's, and with the
-   entries that took fewer rounds.  Each time goes to the file of times, too. */
-void print_head(size_t count, const struct turn *turns);
-void print_row(const char *call, const struct set *set, size_t count, const struct turn *turns);
+struct table {
+    size_t count, entries;
+    struct row *rows;
+    /* Prepares a row and checks that its entries agree; afterwards the row is left. */
+    void (*enter)(size_t row);
+    void (*leave)(void);
+    void (*run)(size_t entry);
+};
 
-/* Opens the file of times, if one is named. */
-void open_times(const char *name);
-void close_times(void);
+/* Takes RUNS runs through all rows, far apart so that a busy time of the machine spoils one run only; in each, the
+   entries that aren't left out take turns for ROUNDS rounds, slow ones for fewer.  Prints the times, with the
+   first entry's as a multiple of each other one's, and writes them to a file, if one is named. */
+void time_table(const struct table *table, const char *file);
 
 /* Any number (splitmix64). */
 uint64_t number(void);
