@@ -10,12 +10,12 @@ use Rattle.definitions.specs.Ring.{InRing}
 use Rattle.ring.specs.Work.{part}
 use Rattle.ring.proofs.Linear.{linear-cong}
 use Rattle.karatsuba.specs.Products.{Multiplied, BoundsSums, HalvesTaken, HalvesAdded, HalfMultiplied, SumsMultiplied}
-use Rattle.karatsuba.proofs.Lent.{lent, returned, part-lent, part-lent-front, returned-before, returned-at, returned-kept}
+use Rattle.karatsuba.proofs.Rest.{rest, returned, part-rest, part-rest-front, returned-before, returned-at, returned-kept}
 
 -- ---- the products
 
 pub half-multiplied : {q m h from : ℕ} {words mid back product back′ : List ℕ} → m + m ≤ length mid → from + from ≤ length product
-    → HalvesTaken m h from words mid → Multiplied q h (lent (m + m) mid) back back′
+    → HalvesTaken m h from words mid → Multiplied q h (rest (m + m) mid) back back′
     → HalfMultiplied q m h from words (returned (m + m) mid back) product (returned (from + from) product back′)
 half-multiplied {q} {m} {h} {from} {words} {mid} {back} {product} {back′} fit room taken done =
     let kept = returned-kept (m + m) (h + h) mid back fit (done .kept) in
@@ -27,11 +27,11 @@ half-multiplied {q} {m} {h} {from} {words} {mid} {back} {product} {back′} fit 
       };
       before = λ k l. returned-before (from + from) product back′ room l;
       same = λ k l. returned-at (from + from) product back′ k room ∙ done .same k l
-          ∙ ap (λ (x : ℕ). x % q) (linear-cong h (λ i s. part-lent-front (m + m) mid i ∙ taken .first i s) (λ i s. part-lent (m + m) h mid i ∙ taken .second i s) k);
+          ∙ ap (λ (x : ℕ). x % q) (linear-cong h (λ i s. part-rest-front (m + m) mid i ∙ taken .first i s) (λ i s. part-rest (m + m) h mid i ∙ taken .second i s) k);
     }
 
 pub sums-multiplied : {q m h : ℕ} {words mid back product back′ : List ℕ} → m + m ≤ length mid → m + m ≤ length product
-    → HalvesTaken m h h words words → HalvesAdded q m h words mid → Multiplied q h (lent (m + m) mid) back back′
+    → HalvesTaken m h h words words → HalvesAdded q m h words mid → Multiplied q h (rest (m + m) mid) back back′
     → SumsMultiplied q m h words (returned (m + m) mid back) product (returned (m + m) product back′)
 sums-multiplied {q} {m} {h} {words} {mid} {back} {product} {back′} fit room upper added done = record {
   kept = λ k l. returned-kept (m + m) (h + h) mid back fit (done .kept) k (omega arith) ∙ added .kept k l;
@@ -39,11 +39,11 @@ sums-multiplied {q} {m} {h} {words} {mid} {back} {product} {back′} fit room up
   same = λ k l. returned-at (m + m) product back′ k room ∙ done .same k l ∙ ap (λ (x : ℕ). x % q) (linear-cong h first second k);
 }
   where
-    first : (i : ℕ) → i < h → part (lent (m + m) mid) 0 i ≡ (part words h i + part words 0 i) % q
-    first i l = part-lent-front (m + m) mid i ∙ added .first i l ∙ ap (λ (x : ℕ). (x + part words 0 i) % q) (upper .first i l)
+    first : (i : ℕ) → i < h → part (rest (m + m) mid) 0 i ≡ (part words h i + part words 0 i) % q
+    first i l = part-rest-front (m + m) mid i ∙ added .first i l ∙ ap (λ (x : ℕ). (x + part words 0 i) % q) (upper .first i l)
 
-    second : (i : ℕ) → i < h → part (lent (m + m) mid) h i ≡ (part words (m + h) i + part words m i) % q
-    second i l = part-lent (m + m) h mid i ∙ added .second i l ∙ ap (λ (x : ℕ). (x + part words m i) % q) (upper .second i l)
+    second : (i : ℕ) → i < h → part (rest (m + m) mid) h i ≡ (part words (m + h) i + part words m i) % q
+    second i l = part-rest (m + m) h mid i ∙ added .second i l ∙ ap (λ (x : ℕ). (x + part words m i) % q) (upper .second i l)
 
 -- ---- coefficients stay below their bounds
 
@@ -64,8 +64,8 @@ pub added-ring : {q top r m h : ℕ} {words mid : List ℕ} → 0 < q → h ≤ 
 added-ring pos fit sums added upper lower =
     (λ k l. rw (added .first k l) (mod-lt _ pos), λ k l. rw (added .second k l) (sums .bounds _ _ (upper k l) (lower k (omega arith))))
 
-pub lent-ring : {q top : ℕ} (m h : ℕ) (mid : List ℕ) → InRing q h (part mid (m + m)) × InRing top h (part mid (m + m + h)) → InRing q h (part (lent (m + m) mid) 0) × InRing top h (part (lent (m + m) mid) h)
-lent-ring m h mid ring = (λ k l. rw (part-lent-front (m + m) mid k) (ring .0 k l), λ k l. rw (part-lent (m + m) h mid k) (ring .1 k l))
+pub rest-ring : {q top : ℕ} (m h : ℕ) (mid : List ℕ) → InRing q h (part mid (m + m)) × InRing top h (part mid (m + m + h)) → InRing q h (part (rest (m + m) mid) 0) × InRing top h (part (rest (m + m) mid) h)
+rest-ring m h mid ring = (λ k l. rw (part-rest-front (m + m) mid k) (ring .0 k l), λ k l. rw (part-rest (m + m) h mid k) (ring .1 k l))
 
 -- the halves that stand behind the two, of the words as they are now
 pub taken-now : {m h from : ℕ} {words words′ : List ℕ} → from + h ≤ m → HalvesTaken m h from words words′ → HalvesTaken m h from words′ words′

@@ -6,8 +6,8 @@ use Prim.Native.Nat.{ℕ, _+_, _<_}
 use native.Mathlib.Nat.{pos-of-ne-zero, lt-of-lt-of-le}
 use native.Mathlib.Omega.{arith}
 use mathlib.Core.Path.{_∙_}
-use Rattle.karatsuba.proofs.Lent.{length-lent}
-use Rattle.karatsuba.proofs.Halves.{half-multiplied, sums-multiplied, kept-ring, taken-ring, added-ring, lent-ring, taken-now}
+use Rattle.karatsuba.proofs.Rest.{length-rest}
+use Rattle.karatsuba.proofs.Halves.{half-multiplied, sums-multiplied, kept-ring, taken-ring, added-ring, rest-ring, taken-now}
 use Rattle.karatsuba.proofs.Identity.{three, three-ring, put-together}
 use Rattle.karatsuba.proofs.Levels.{level-none, level-below, leaf-ring, leaf-multiplied}
 use borrow.Fn.Kinds.{In}
@@ -109,8 +109,8 @@ half-multiply-requires t c κs =
     let mid = taken .take-half .last .0 in (
       omega arith,
       (
-        (p .0 .0, p .0 .1, omega arith, omega (arith, length-lent (a .m + a .m) mid), omega (arith, length-lent (a .from + a .from) (a .product .now))),
-        (p .1 .0, lent-ring (a .m) (a .h) mid (taken-ring (omega arith) (taken .take-half .ensures) (p .1 .1 .0))),
+        (p .0 .0, p .0 .1, omega arith, omega (arith, length-rest (a .m + a .m) mid), omega (arith, length-rest (a .from + a .from) (a .product .now))),
+        (p .1 .0, rest-ring (a .m) (a .h) mid (taken-ring (omega arith) (taken .take-half .ensures) (p .1 .1 .0))),
       ),
     )
 
@@ -260,10 +260,10 @@ sums-multiply-requires t c κs =
     let behind = taken-ring (omega arith) (p .1 .1 .1) (p .1 .1 .0) in (
       omega arith,
       (
-        (p .0 .0, p .0 .1, omega arith, omega (arith, length-lent (a .m + a .m) mid), omega (arith, length-lent (a .m + a .m) (a .product .now))),
+        (p .0 .0, p .0 .1, omega arith, omega (arith, length-rest (a .m + a .m) mid), omega (arith, length-rest (a .m + a .m) (a .product .now))),
         (
           (bound .most, p .1 .0 .1, p .1 .0 .2, p .1 .0 .3),
-          lent-ring (a .m) (a .h) mid (added-ring (p .1 .0 .1) (omega arith) bound (added .add-half .ensures) (behind .1) (p .1 .1 .0 .1)),
+          rest-ring (a .m) (a .h) mid (added-ring (p .1 .0 .1) (omega arith) bound (added .add-half .ensures) (behind .1) (p .1 .1 .0 .1)),
         ),
       ),
     )

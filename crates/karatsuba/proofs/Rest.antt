@@ -1,6 +1,6 @@
--- A part of the words from a place on, lent to a call and given back: what stands before it is kept, and in it what the call left.
+-- The words from a place on, handed to a call and given back: what stands before it is kept, and in it what the call left.
 --
---   lent             the part that is lent
+--   rest             the words from a place on
 --   returned         the words with what was given back in its place
 --
 -- Assumes nothing.
@@ -15,23 +15,23 @@ use lib.Seq.{take-all, getD-append-add, getD-take, getD-drop, length-take-le}
 use borrow.Rule.Slice.PartMut.{putMid}
 use Rattle.ring.specs.Work.{part}
 
-abbrev pub lent : ℕ → List ℕ → List ℕ
-lent at l = take (length l - at) (drop at l)
+abbrev pub rest : ℕ → List ℕ → List ℕ
+rest at l = take (length l - at) (drop at l)
 
 abbrev pub returned : ℕ → List ℕ → List ℕ → List ℕ
 returned at l back = putMid at (length l - at) l back
 
-pub part-lent : (at from : ℕ) (l : List ℕ) (k : ℕ) → part (lent at l) from k ≡ part l (at + from) k
-part-lent at from l k =
+pub part-rest : (at from : ℕ) (l : List ℕ) (k : ℕ) → part (rest at l) from k ≡ part l (at + from) k
+part-rest at from l k =
     ap (λ (x : List ℕ). part x from k) (take-all (length l - at) (drop at l) (omega (arith, length-drop at l)))
     ∙ getD-drop at l (from + k) 0
     ∙ ap (λ (j : ℕ). getD l j 0) (sym (add-assoc at from k))
 
-pub part-lent-front : (at : ℕ) (l : List ℕ) (k : ℕ) → part (lent at l) 0 k ≡ part l at k
-part-lent-front at l k = part-lent at 0 l k ∙ ap (λ (j : ℕ). getD l (j + k) 0) (add-zero at)
+pub part-rest-front : (at : ℕ) (l : List ℕ) (k : ℕ) → part (rest at l) 0 k ≡ part l at k
+part-rest-front at l k = part-rest at 0 l k ∙ ap (λ (j : ℕ). getD l (j + k) 0) (add-zero at)
 
-pub length-lent : (at : ℕ) (l : List ℕ) → length (lent at l) ≡ length l - at
-length-lent at l = simp (length-take, length-drop) (omega arith)
+pub length-rest : (at : ℕ) (l : List ℕ) → length (rest at l) ≡ length l - at
+length-rest at l = simp (length-take, length-drop) (omega arith)
 
 returned-append : (at : ℕ) (l back : List ℕ) → returned at l back ≡ take at l ++ back
 returned-append at l back =
@@ -48,7 +48,7 @@ returned-at at l back k fit =
     ∙ subst (λ (n : ℕ). getD (take at l ++ back) (n + k) 0 ≡ getD back k 0) (length-take-le at l fit) (getD-append-add (take at l) back k 0)
 
 -- where its first n words were kept
-pub returned-kept : (at n : ℕ) (l back : List ℕ) → at ≤ length l → ((k : ℕ) → k < n → getD back k 0 ≡ getD (lent at l) k 0)
+pub returned-kept : (at n : ℕ) (l back : List ℕ) → at ≤ length l → ((k : ℕ) → k < n → getD back k 0 ≡ getD (rest at l) k 0)
     → (k : ℕ) → k < at + n → getD (returned at l back) k 0 ≡ getD l k 0
 returned-kept at n l back fit kept k s =
     elim (decLt k at) [ yes u ↦ returned-before at l back fit u | no u ↦ behind (omega arith) ]
@@ -57,4 +57,4 @@ returned-kept at n l back fit kept k s =
     behind u =
         let e : at + (k - at) ≡ k = omega arith in
         subst (λ (j : ℕ). getD (returned at l back) j 0 ≡ getD l j 0) e
-        (returned-at at l back (k - at) fit ∙ kept (k - at) (omega arith) ∙ ap (λ (j : ℕ). getD (lent at l) j 0) (sym (zero-add (k - at))) ∙ part-lent-front at l (k - at))
+        (returned-at at l back (k - at) fit ∙ kept (k - at) (omega arith) ∙ ap (λ (j : ℕ). getD (rest at l) j 0) (sym (zero-add (k - at))) ∙ part-rest-front at l (k - at))
