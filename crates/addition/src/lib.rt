@@ -8,7 +8,6 @@ ghost use Rattle.definitions.specs.Calls.{addExit};
 ghost use Rattle.parameters.specs.Answers.{setFrom};
 ghost use Rattle.addition.specs.Sums.{Judged, coefficientSums};
 use parameters::Parameters;
-use parameters::lengths;
 use parameters::refusals;
 
 // So many coefficients, of summands that were judged.

@@ -1,4 +1,2 @@
 -- Laws that the proofs cite.
-pub mod Exits
 pub mod Sets
-pub mod RoundTrips

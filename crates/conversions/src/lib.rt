@@ -1,16 +1,14 @@
-// The conversions between octets and coefficient words of 32 bits (01, "What the library does"): ring elements, small elements, public keys
-// and ciphertexts. Each call tests the set (refusals 1 to 5), the exact lengths (6), then the unused bits (7) or the coefficients (8), and
-// writes only where all of them pass: a refusal leaves the output as it was. The contracts equate what a caller has at exit with the
-// definitions' conversionExit.
+// The conversions between octets and coefficient words of 32 bits (01, "What the library does"): ring elements, public keys and
+// ciphertexts. Each call tests the set (refusals 1 to 5), the exact lengths (6), then the coefficients (8), and writes only where all of
+// them pass: a refusal leaves the output as it was. The contracts equate what a caller has at exit with the definitions' conversionExit.
 use parameters::Parameters;
-use parameters::lengths;
 use parameters::refusals;
 ghost use mathlib.Core.Path.{_≡_};
 ghost use Prim.Native.Nat.{_≤_};
 ghost use lib.ListN.{length};
 ghost use Rattle.definitions.specs.Refusals.{firstRefusal};
 ghost use Rattle.definitions.specs.Parameters.{setTests};
-ghost use Rattle.definitions.specs.Conversions.{conversionExit, fromOctetsAnswer, toOctetsAnswer, smallFromAnswer, smallToAnswer, ringElements, publicElements, ciphertextElements};
+ghost use Rattle.definitions.specs.Conversions.{conversionExit, fromOctetsAnswer, toOctetsAnswer, ringElements, publicElements, ciphertextElements};
 ghost use Rattle.parameters.specs.Answers.{setFrom};
 
 // So many ring elements of an accepted set from octets.
@@ -113,48 +111,4 @@ pub fn ciphertext_to_octets(p: Parameters, words: &[u32], octets: &mut [u8]) -> 
         return refused;
     }
     elements_to_octets(p, lengths::monomial_count(p.dx + p.dr), words, octets)
-}
-
-// A small element: n coefficients of b bits. A given octet string with a bit set past them is refused with 7.
-pub fn small_from_octets(p: Parameters, octets: &[u8], words: &mut [u32]) -> u32
-    ensures { λ r. ⌜ record { refusal = r; converted = now (words .exit) } ≡ conversionExit (smallFromAnswer (setFrom p) (now (octets .entry)) (length (now (words .entry)))) (now (words .entry)) ⌝ }
-{
-    let refused = parameters::refusal(p);
-    if refused != 0 {
-        return refused;
-    }
-    if octets.len() != lengths::small_length(p) {
-        return refusals::LENGTH;
-    }
-    if words.len() != p.n as usize {
-        return refusals::LENGTH;
-    }
-    let b = lengths::bits(p.l);
-    let padded = packing::padding(octets, words.len() * (b as usize));
-    if padded != 0 {
-        return padded;
-    }
-    packing::unpack(octets, b, words);
-    0
-}
-
-pub fn small_to_octets(p: Parameters, words: &[u32], octets: &mut [u8]) -> u32
-    ensures { λ r. ⌜ record { refusal = r; converted = now (octets .exit) } ≡ conversionExit (smallToAnswer (setFrom p) (now (words .entry)) (length (now (octets .entry)))) (now (octets .entry)) ⌝ }
-{
-    let refused = parameters::refusal(p);
-    if refused != 0 {
-        return refused;
-    }
-    if words.len() != p.n as usize {
-        return refusals::LENGTH;
-    }
-    if octets.len() != lengths::small_length(p) {
-        return refusals::LENGTH;
-    }
-    let judged = octets::judge_words(words, p.l);
-    if judged != 0 {
-        return judged;
-    }
-    packing::pack(words, lengths::bits(p.l), octets);
-    0
 }

@@ -15,7 +15,6 @@ ghost use Rattle.ring.specs.Work.{part, written};
 ghost use Rattle.secrets.specs.Secrets.{Exact};
 ghost use Rattle.decryption.specs.Decrypted.{MessageOf, Decrypted};
 use parameters::Parameters;
-use parameters::lengths;
 use parameters::refusals;
 
 // Each word of a part modulo l, a power of two.
@@ -40,7 +39,7 @@ fn write_message(p: Parameters, message: &mut [u8], work: &mut [u32]) -> u32
     let at = 2 * n;
     let end = at + n;
     reduce(work, at, n, p.l);
-    let b = lengths::bits(p.l);
+    let b = parameters::bits(p.l);
     let tail = at + ((p.mlen / b) as usize);
     if secrets::vanishes(work, tail, end) == 0 {
         return refusals::TAIL;

@@ -18,6 +18,8 @@ pub mod Elements
 pub mod Small
 pub mod Calls
 pub mod Exits
+pub mod Conversions
+pub mod RoundTrips
 pub mod Represents
 pub mod Decryption
 pub mod Zeros

@@ -1,7 +1,6 @@
 // Draws from random octets (01, "Draws from lent random octets"): numbers below q, and small elements.
 // A run of draws is refused where the octets end before its last draw is complete. The contracts cite definitions/specs/Draws.antt.
 use parameters::Parameters;
-use parameters::lengths;
 ghost use mathlib.Core.Path.{_≡_};
 ghost use Prim.Native.Nat.{_+_, _-_, _≤_, _<_, _^_};
 ghost use lib.ListN.{length, take, drop};
@@ -62,7 +61,7 @@ fn draw_small(random: &[u8], at: usize, p: Parameters, words: &mut [u32])
     ensures { λ _. ⌜ now (words .exit) ≡ unpacked (smallBits (p .l)) (p .n) (take (smallLength (setFrom p)) (drop at (now (random .entry)))) ⌝ }
 {
     let end = at + lengths::small_length(p);
-    packing::unpack(&random[at..end], lengths::bits(p.l), words);
+    unpacking::unpack(&random[at..end], parameters::bits(p.l), words);
 }
 
 // The draw of a secret element.

@@ -1,6 +1,3 @@
 -- Laws that the proofs cite.
-pub mod Elements
-pub mod Ciphertext
-pub mod Sharing
 pub mod Returns
 pub mod Mask

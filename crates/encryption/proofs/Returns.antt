@@ -6,11 +6,11 @@
 --   encryptExit-work                 once the lengths are exact, the words that stood in the work words are not told any more
 -- Assumes nothing.
 use Prim.Native.Nat.{ℕ, zero, suc, _≤_, _<_}
-use mathlib.Core.Path.{_≡_, refl, _∙_, ap}
+use mathlib.Core.Path.{_≡_, _∙_, ap}
 use mathlib.Core.Bool.{Bool, true, false, _&&_, _||_, not, and-false}
 use mathlib.Core.List.{List, [], _∷_}
-use borrow.Author.Tests.{not-false, eq-eqb, ne-eqb, lt-ltb, le-ltb}
-use lib.Dec.{eqb, ltb, lit<}
+use borrow.Author.Tests.{eq-eqb, ne-eqb, lt-ltb, le-ltb}
+use lib.Dec.{eqb, ltb}
 use lib.ListN.{length, drop, replicate}
 use Rattle.definitions.specs.Refusals.{Test, refuse, Answer, untouched, firstRefusal, answer, answerOf, number}
 use Rattle.definitions.specs.Parameters.{Parameters, degree, setTests, monomialCount, publicLength, ciphertextLength, messageLength, workLength}
@@ -18,11 +18,10 @@ use Rattle.definitions.specs.Monomials.{polynomialOf}
 use Rattle.definitions.specs.Octets.{paddingClear}
 use Rattle.definitions.specs.Calls.{lengthTests, elementsFit, smallOf, polynomialFrom, octetsFrom, maskDraws, noiseOf, encryptedWith, maskLength, encryptUsed, Encrypted, encryptAnswer, EncryptExit, encryptLeaves, encryptExit}
 use Rattle.definitions.specs.Demand3.{AcceptedSet}
-use Rattle.definitions.proofs.Refusals.{firstRefusal-applies, firstRefusal-passes, firstRefusal-passed, firstRefusal-last}
+use Rattle.definitions.proofs.Refusals.{firstRefusal-applies, firstRefusal-passes, firstRefusal-last}
 use Rattle.definitions.proofs.Calls.{lengthTests-decide}
 use Rattle.definitions.proofs.Exits.{exit-set, exit-length, exit-refused, exit-accepted}
-use Rattle.packing.specs.Fields.{paddingNumber}
-use Rattle.encryption.specs.Elements.{Exact, Judged}
+use Rattle.encryption.specs.Steps.{Exact, Judged}
 
 module _ (p : Parameters) (public message random ciphertext : List ℕ) (used : ℕ) (work : List ℕ) where
   abbrev leaves : Answer Encrypted → EncryptExit
@@ -159,16 +158,3 @@ encryptExit-work p public message random ciphertext used work other exact e =
     let first : firstRefusal (lengthTests p (exactly p public message random ciphertext used work)) ≡ 0 =
     lengthTests-decide p (exact .set) (exactly p public message random ciphertext used work) ∙ rw (lengths p public message random ciphertext used work exact) in
     rw e (leaves-same (lengthTests p (exactly p public message random ciphertext used work)) _ _ ciphertext used other work first e)
-
--- ---- what the number of the unused bits says
-pub padding-clear : (used : ℕ) (octets : List ℕ) → paddingNumber used octets ≡ 0 → paddingClear used octets ≡ true
-unfolding paddingNumber
-padding-clear used octets e = not-false _ (firstRefusal-passed 7 _ [] (lit< tt) e .0)
-
-pub padding-refused : (used : ℕ) (octets : List ℕ) → (paddingNumber used octets ≡ 0 → ⊥) → paddingClear used octets ≡ false
-unfolding paddingNumber
-padding-refused used octets e = go (paddingClear used octets) e
-  where
-    go : (t : Bool) → (firstRefusal (refuse 7 (not t) ∷ []) ≡ 0 → ⊥) → t ≡ false
-    go true e = absurd (e (firstRefusal-last 7 false refl))
-    go false e = refl

@@ -1,1 +1,2 @@
-pub mod Elements
+-- What the contracts cite besides the definitions.
+pub mod Steps

@@ -174,7 +174,7 @@ pub extern "C" fn giophantus_small_from_octets(
         dr,
         mlen,
     };
-    conversions::small_from_octets(p, octets, words)
+    small_conversions::small_from_octets(p, octets, words)
 }
 
 #[no_mangle]
@@ -198,5 +198,5 @@ pub extern "C" fn giophantus_small_to_octets(
         dr,
         mlen,
     };
-    conversions::small_to_octets(p, words, octets)
+    small_conversions::small_to_octets(p, words, octets)
 }

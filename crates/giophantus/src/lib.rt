@@ -10,7 +10,6 @@ ghost use Rattle.definitions.specs.Calls.{KeygenExit, keygenExit, IsZeroExit, i
 ghost use Rattle.giophantus.specs.Interface.{set, limitsOf, lengthsOf};
 use parameters::LimitsAnswer;
 use parameters::Parameters;
-use parameters::lengths;
 
 // The set's refusal, 0 where it is accepted.
 #[no_mangle]

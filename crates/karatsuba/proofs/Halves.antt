@@ -1,76 +1,79 @@
--- The products of halves: what the calls on the words behind the two leave, and that they are called on coefficients below their bounds.
+-- The products of a level: no step writes over a word that a later one still reads, so that in the end the three products stand where
+-- they are put together, and each is called on coefficients below its bounds.
+--
+--   Places           a level: a and b of m = 2 h coefficients stand before the product, and the free words behind it
+--
+-- The words are named by the step that leaves them: summed (the sums of the halves), crossed (their product), lower (the product of the
+-- lower halves) and outer (that of the upper ones beside it).
 -- Assumes nothing.
 use Prim.Native.Nat.{ℕ, _+_, _%_, _≤_, _<_}
-use native.Mathlib.Nat.{add-assoc, zero-add, mod-lt}
+use native.Mathlib.Nat.{add-assoc, mod-lt}
 use native.Mathlib.Omega.{arith}
-use mathlib.Core.Path.{_≡_, refl, sym, _∙_, ap}
+use mathlib.Core.Path.{_≡_, _∙_, ap}
 use mathlib.Core.List.{List}
-use lib.ListN.{length}
+use lib.ListN.{getD}
 use Rattle.definitions.specs.Ring.{InRing}
 use Rattle.ring.specs.Work.{part}
-use Rattle.ring.proofs.Linear.{linear-cong}
-use Rattle.karatsuba.specs.Products.{Multiplied, BoundsSums, HalvesTaken, HalvesAdded, HalfMultiplied, SumsMultiplied}
-use Rattle.karatsuba.proofs.Rest.{rest, returned, part-rest, part-rest-front, returned-before, returned-at, returned-kept}
+use Rattle.ring.specs.Linear.{linear}
+use Rattle.ring.proofs.Linear.{upper, linear-cong}
+use Rattle.karatsuba.specs.Products.{Multiplied, BoundsSums, HalvesAdded, Joined}
+use Rattle.karatsuba.proofs.Steps.{upper-ring, kept-ring}
+use Rattle.karatsuba.proofs.Identity.{Three, put-together}
 
--- ---- the products
+pub record Places (m h a b at free : ℕ) : Type 0 where
+  pub half : m ≡ h + h
+  pub first : a + m ≤ at
+  pub second : b + m ≤ at
+  pub room : at + (m + m) ≤ free
 
-pub half-multiplied : {q m h from : ℕ} {words mid back product back′ : List ℕ} → m + m ≤ length mid → from + from ≤ length product
-    → HalvesTaken m h from words mid → Multiplied q h (rest (m + m) mid) back back′
-    → HalfMultiplied q m h from words (returned (m + m) mid back) product (returned (from + from) product back′)
-half-multiplied {q} {m} {h} {from} {words} {mid} {back} {product} {back′} fit room taken done =
-    let kept = returned-kept (m + m) (h + h) mid back fit (done .kept) in
-    record {
-      taken = record {
-        kept = λ k l. kept k (omega arith) ∙ taken .kept k l;
-        first = λ k l. kept (m + m + k) (omega arith) ∙ taken .first k l;
-        second = λ k l. kept (m + m + h + k) (omega arith) ∙ taken .second k l;
-      };
-      before = λ k l. returned-before (from + from) product back′ room l;
-      same = λ k l. returned-at (from + from) product back′ k room ∙ done .same k l
-          ∙ ap (λ (x : ℕ). x % q) (linear-cong h (λ i s. part-rest-front (m + m) mid i ∙ taken .first i s) (λ i s. part-rest (m + m) h mid i ∙ taken .second i s) k);
+-- ---- the sums of the halves
+pub summed-ring : {q top r h a b at : ℕ} {words summed : List ℕ} → 0 < q → BoundsSums q top r → HalvesAdded q h a b at words summed → InRing top (h + h) (part words b)
+    → InRing q h (part summed at) × InRing r h (part summed (at + h))
+summed-ring {h = h} {b = b} {words = words} pos sums added ring =
+    (λ k l. rw (added .first k l) (mod-lt _ pos), λ k l. rw (added .second k l) (sums .bounds _ _ (ring k (omega arith)) (upper-ring b h words (omega arith) ring k l)))
+
+-- ---- the product of the sums
+module _ {q m h a b at free : ℕ} (places : Places m h a b at free) {words summed crossed : List ℕ}
+    (added : HalvesAdded q h a b at words summed) (cross : Multiplied q h at (at + h) free (free + m) summed crossed) where
+  crossed-kept : (k : ℕ) → k < at → getD crossed k 0 ≡ getD words k 0
+  crossed-kept k l = cross .kept k (omega arith) ∙ added .kept k l
+
+  crossed-same : (k : ℕ) → k < m → part crossed free k ≡ linear h (λ i. (part words a i + upper h (part words a) i) % q) (λ i. (part words b i + upper h (part words b) i) % q) k % q
+  crossed-same k l = cross .same k (omega arith) ∙ ap (λ (x : ℕ). x % q) (linear-cong h (λ i s. added .first i s ∙ sums a i) (λ i s. added .second i s ∙ sums b i) k)
+    where
+      sums : (c i : ℕ) → (part words c i + part words (c + h) i) % q ≡ (part words c i + upper h (part words c) i) % q
+      sums c i = ap (λ (j : ℕ). (part words c i + getD words j 0) % q) (add-assoc c h i)
+
+  -- what the lower halves are read from
+  pub crossed-ring : {top : ℕ} → InRing q m (part words a) × InRing top m (part words b) → InRing q m (part crossed a) × InRing top m (part crossed b)
+  crossed-ring ring = (kept-ring a words crossed (places .first) crossed-kept (ring .0), kept-ring b words crossed (places .second) crossed-kept (ring .1))
+
+  -- what the upper halves are read from
+  pub lowered-ring : {top : ℕ} {lower : List ℕ} → Multiplied q h a b at (free + m) crossed lower → InRing q m (part words a) × InRing top m (part words b)
+      → InRing q h (part lower (a + h)) × InRing top h (part lower (b + h))
+  lowered-ring {lower = lower} low ring =
+      (upper-ring a h lower (omega arith) (kept-ring a words lower (places .first) kept (ring .0)), upper-ring b h lower (omega arith) (kept-ring b words lower (places .second) kept (ring .1)))
+    where
+      kept : (k : ℕ) → k < at → getD lower k 0 ≡ getD words k 0
+      kept k l = low .kept k l ∙ crossed-kept k l
+
+  -- ---- the products of the lower and of the upper halves
+  module _ {lower outer : List ℕ} (low : Multiplied q h a b at (free + m) crossed lower) (high : Multiplied q h (a + h) (b + h) (at + m) (free + m) lower outer) where
+    pub three : Three q m h at free (part words a) (part words b) outer
+    three = record {
+      low = λ k l. high .kept (at + k) (omega arith) ∙ low .same k (omega arith)
+          ∙ ap (λ (x : ℕ). x % q) (linear-cong h (λ i s. crossed-kept (a + i) (omega arith)) (λ i s. crossed-kept (b + i) (omega arith)) k);
+      high = λ k l. high .same k (omega arith) ∙ ap (λ (x : ℕ). x % q) (linear-cong h (λ i s. halves a i (omega arith)) (λ i s. halves b i (omega arith)) k);
+      sums = λ k l. high .between (free + k) (omega arith) (omega arith) ∙ low .between (free + k) (omega arith) (omega arith) ∙ crossed-same k l;
     }
+      where
+        halves : (c i : ℕ) → c + h + i < at → part lower (c + h) i ≡ upper h (part words c) i
+        halves c i l = low .kept (c + h + i) l ∙ crossed-kept (c + h + i) l ∙ ap (λ (j : ℕ). getD words j 0) (add-assoc c h i)
 
-pub sums-multiplied : {q m h : ℕ} {words mid back product back′ : List ℕ} → m + m ≤ length mid → m + m ≤ length product
-    → HalvesTaken m h h words words → HalvesAdded q m h words mid → Multiplied q h (rest (m + m) mid) back back′
-    → SumsMultiplied q m h words (returned (m + m) mid back) product (returned (m + m) product back′)
-sums-multiplied {q} {m} {h} {words} {mid} {back} {product} {back′} fit room upper added done = record {
-  kept = λ k l. returned-kept (m + m) (h + h) mid back fit (done .kept) k (omega arith) ∙ added .kept k l;
-  before = λ k l. returned-before (m + m) product back′ room l;
-  same = λ k l. returned-at (m + m) product back′ k room ∙ done .same k l ∙ ap (λ (x : ℕ). x % q) (linear-cong h first second k);
-}
-  where
-    first : (i : ℕ) → i < h → part (rest (m + m) mid) 0 i ≡ (part words h i + part words 0 i) % q
-    first i l = part-rest-front (m + m) mid i ∙ added .first i l ∙ ap (λ (x : ℕ). (x + part words 0 i) % q) (upper .first i l)
-
-    second : (i : ℕ) → i < h → part (rest (m + m) mid) h i ≡ (part words (m + h) i + part words m i) % q
-    second i l = part-rest (m + m) h mid i ∙ added .second i l ∙ ap (λ (x : ℕ). (x + part words m i) % q) (upper .second i l)
-
--- ---- coefficients stay below their bounds
-
-pub kept-ring : {q top m h from : ℕ} {words words′ : List ℕ} → HalvesTaken m h from words words′ → InRing q m (part words 0) × InRing top m (part words m)
-    → InRing q m (part words′ 0) × InRing top m (part words′ m)
-kept-ring {m = m} taken ring = (λ k l. rw (taken .kept (0 + k) (omega arith)) (ring .0 k l), λ k l. rw (taken .kept (m + k) (omega arith)) (ring .1 k l))
-
-pub half-ring : {q m h : ℕ} (at from : ℕ) (words : List ℕ) → from + h ≤ m → InRing q m (part words at) → InRing q h (part words (at + from))
-half-ring at from words fit ring k l = rw (add-assoc at from k) (ring (from + k) (omega arith))
-
-pub taken-ring : {q top m h from : ℕ} {words mid : List ℕ} → from + h ≤ m → HalvesTaken m h from words mid → InRing q m (part words 0) × InRing top m (part words m)
-    → InRing q h (part mid (m + m)) × InRing top h (part mid (m + m + h))
-taken-ring {q} {top} {m} {h} {from} {words} {mid} fit taken ring =
-    (λ k l. rw (taken .first k l, ← zero-add from) (half-ring 0 from words fit (ring .0) k l), λ k l. rw (taken .second k l) (half-ring m from words fit (ring .1) k l))
-
-pub added-ring : {q top r m h : ℕ} {words mid : List ℕ} → 0 < q → h ≤ m → BoundsSums q top r → HalvesAdded q m h words mid → InRing top h (part words (m + m + h)) → InRing top m (part words m)
-    → InRing q h (part mid (m + m)) × InRing r h (part mid (m + m + h))
-added-ring pos fit sums added upper lower =
-    (λ k l. rw (added .first k l) (mod-lt _ pos), λ k l. rw (added .second k l) (sums .bounds _ _ (upper k l) (lower k (omega arith))))
-
-pub rest-ring : {q top : ℕ} (m h : ℕ) (mid : List ℕ) → InRing q h (part mid (m + m)) × InRing top h (part mid (m + m + h)) → InRing q h (part (rest (m + m) mid) 0) × InRing top h (part (rest (m + m) mid) h)
-rest-ring m h mid ring = (λ k l. rw (part-rest-front (m + m) mid k) (ring .0 k l), λ k l. rw (part-rest (m + m) h mid k) (ring .1 k l))
-
--- the halves that stand behind the two, of the words as they are now
-pub taken-now : {m h from : ℕ} {words words′ : List ℕ} → from + h ≤ m → HalvesTaken m h from words words′ → HalvesTaken m h from words′ words′
-taken-now {m} {h} {from} fit taken = record {
-  kept = λ k l. refl;
-  first = λ k l. taken .first k l ∙ sym (taken .kept (from + k) (omega arith));
-  second = λ k l. taken .second k l ∙ sym (taken .kept (m + from + k) (omega arith));
-}
+    pub level-multiplied : {new : List ℕ} → 0 < q → Joined q m h at free outer new → Multiplied q m a b at free words new
+    level-multiplied pos joined = record {
+      kept = λ k l. joined .low k (omega arith) ∙ high .kept k (omega arith) ∙ low .kept k l ∙ crossed-kept k l;
+      between = λ k s l. joined .high k (omega arith) l ∙ high .between k (omega arith) (omega arith) ∙ low .between k (omega arith) (omega arith)
+          ∙ cross .kept k l ∙ added .behind k (omega arith);
+      same = put-together pos (places .half) (places .room) three joined;
+    }

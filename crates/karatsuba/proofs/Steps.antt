@@ -1,19 +1,20 @@
--- What one list written over the words leaves at each place, and what several leave: the steps between the three products.
+-- What one list written over the words leaves at each place, and what several leave: the steps before and after the three products.
+--
+--   Wrote            the words with f's first n values written over them from a place on; all others as they were
+--
 -- Assumes nothing.
 use Prim.Native.Nat.{ℕ, _+_, _-_, _%_, _≤_, _<_}
-use native.Mathlib.Nat.{mod-lt, mod-eq-of-lt}
+use native.Mathlib.Nat.{add-assoc, mod-lt, mod-eq-of-lt}
 use native.Mathlib.Omega.{arith}
-use native.Mathlib.Decide.{decLt}
-use mathlib.Core.Path.{_≡_, _∙_, ap, ap₂, subst}
+use mathlib.Core.Path.{_≡_, _∙_, ap, ap₂}
 use mathlib.Core.List.{List}
 use lib.ListN.{length, getD}
 use Rattle.definitions.specs.Sequences.{tabulate}
-use Rattle.definitions.specs.Ring.{Element, InRing, elementOf}
+use Rattle.definitions.specs.Ring.{InRing}
 use Rattle.definitions.proofs.Sums.{length-tabulate}
 use Rattle.ring.specs.Work.{part, written, elementAdded, elementTaken}
 use Rattle.ring.proofs.Work.{getD-written-before, getD-written-after, length-written-tabulate, part-written}
-use Rattle.ring.proofs.Linear.{upper}
-use Rattle.karatsuba.specs.Products.{BoundsSums, HalvesTaken, HalvesAdded, Joined}
+use Rattle.karatsuba.specs.Products.{BoundsSums, HalvesAdded, Joined}
 
 -- ---- one list written
 pub record Wrote (at n : ℕ) (f : ℕ → ℕ) (old new : List ℕ) : Type 0 where
@@ -30,6 +31,20 @@ wrote {at} {n} {f} {old} {new} fit e = record {
   after = λ k l. ap (λ (x : List ℕ). getD x k 0) e ∙ getD-written-after at (tabulate n f) old (omega arith) (omega (arith, length-tabulate n f));
 }
 
+-- ---- coefficients stay below their bounds
+
+pub lower-ring : {q m h : ℕ} (at : ℕ) (words : List ℕ) → h ≤ m → InRing q m (part words at) → InRing q h (part words at)
+lower-ring at words fit ring k l = ring k (omega arith)
+
+pub upper-ring : {q m h : ℕ} (at from : ℕ) (words : List ℕ) → from + h ≤ m → InRing q m (part words at) → InRing q h (part words (at + from))
+upper-ring at from words fit ring k l = rw (add-assoc at from k) (ring (from + k) (omega arith))
+
+pub kept-ring : {q m at : ℕ} (from : ℕ) (old new : List ℕ) → from + m ≤ at → ((k : ℕ) → k < at → getD new k 0 ≡ getD old k 0) → InRing q m (part old from) → InRing q m (part new from)
+kept-ring from old new fit kept ring k l = rw (kept (from + k) (omega arith)) (ring k l)
+
+pub inside-ring : {q at n : ℕ} {f : ℕ → ℕ} {old new : List ℕ} → Wrote at n f old new → InRing q n f → InRing q n (part new at)
+inside-ring w ring k l = rw (w .inside k l) (ring k l)
+
 -- ---- the bound of a sum
 pub doubled-small : {q top : ℕ} → top < q - top → BoundsSums q top (top + top)
 doubled-small {q} {top} l = record { most = omega arith; bounds = λ x y h g. rw (small x y h g) (omega arith) }
@@ -40,58 +55,44 @@ doubled-small {q} {top} l = record { most = omega arith; bounds = λ x y h g. rw
 pub doubled-full : {q top : ℕ} → 0 < q → BoundsSums q top q
 doubled-full {q} pos = record { most = omega arith; bounds = λ x y h g. mod-lt (x + y) pos }
 
--- ---- the halves behind the two
-pub halves-taken : {m h from : ℕ} {words mid new : List ℕ} → m + m + (h + h) ≤ length words → from + h ≤ m
-    → mid ≡ written (m + m) (tabulate h (part words from)) words → new ≡ written (m + m + h) (tabulate h (part mid (m + from))) mid → HalvesTaken m h from words new
-halves-taken {m} {h} {from} {words} {mid} fit inside e g =
-    let w = wrote (omega arith) e in
+-- ---- the sums of the halves
+
+pub copied-ring : {q h at : ℕ} (a : ℕ) {words mid : List ℕ} → a + (h + h) ≤ at → Wrote at h (part words a) words mid → InRing q (h + h) (part words a) → InRing q h (part mid at) × InRing q h (part mid (a + h))
+copied-ring {h = h} a {words} {mid} fit w ring = (inside-ring w (λ k l. ring k (omega arith)), kept-ring (a + h) words mid (omega arith) (w .before) (upper-ring a h words (omega arith) ring))
+
+-- a copy of the lower half, and the upper one added to it
+pub wrote-sum : {h at : ℕ} (q a : ℕ) {words mid new : List ℕ} → a + (h + h) ≤ at → at + h ≤ length words
+    → mid ≡ written at (tabulate h (part words a)) words → new ≡ elementAdded h q (a + h) at mid → Wrote at h (λ k. (part words a k + part words (a + h) k) % q) words new
+wrote-sum {h} {at} q a {words} {mid} inside fit e g =
+    let w = wrote fit e in
     let v = wrote {old = mid} (omega (arith, w .as-long)) g in
     record {
-      kept = λ k l. v .before k (omega arith) ∙ w .before k l;
-      first = λ k l. v .before (m + m + k) (omega arith) ∙ w .inside k l;
-      second = λ k l. v .inside k l ∙ w .before (m + from + k) (omega arith);
+      as-long = v .as-long ∙ w .as-long;
+      inside = λ k l. v .inside k l ∙ ap₂ (λ x y. (x + y) % q) (w .inside k l) (w .before (a + h + k) (omega arith));
+      before = λ k l. v .before k l ∙ w .before k l;
+      after = λ k l. v .after k l ∙ w .after k l;
     }
 
-pub halves-added : {q m h : ℕ} {words mid new : List ℕ} → m + m + (h + h) ≤ length words → h ≤ m
-    → mid ≡ elementAdded h q 0 (m + m) words → new ≡ elementAdded h q m (m + m + h) mid → HalvesAdded q m h words new
-halves-added {q} {m} {h} {words} {mid} fit inside e g =
-    let w = wrote (omega arith) e in
-    let v = wrote {old = mid} (omega (arith, w .as-long)) g in
-    record {
-      kept = λ k l. v .before k (omega arith) ∙ w .before k l;
-      first = λ k l. v .before (m + m + k) (omega arith) ∙ w .inside k l;
-      second = λ k l. v .inside k l ∙ ap₂ (λ x y. (x + y) % q) (w .after (m + m + h + k) (omega arith)) (w .before (m + k) (omega arith));
-    }
+pub halves-added : {q h a b at : ℕ} {words mid new : List ℕ} → b + (h + h) ≤ at
+    → Wrote at h (λ k. (part words a k + part words (a + h) k) % q) words mid → Wrote (at + h) h (λ k. (part mid b k + part mid (b + h) k) % q) mid new → HalvesAdded q h a b at words new
+halves-added {q} {h} {a} {b} {at} {words} {mid} inside w v = record {
+  kept = λ k l. v .before k (omega arith) ∙ w .before k l;
+  behind = λ k l. v .after k (omega arith) ∙ w .after k (omega arith);
+  first = λ k l. v .before (at + k) (omega arith) ∙ w .inside k l;
+  second = λ k l. v .inside k l ∙ ap₂ (λ x y. (x + y) % q) (w .before (b + k) (omega arith)) (w .before (b + h + k) (omega arith));
+}
 
 -- ---- the three products put together
-pub part-ring : {q m : ℕ} (at : ℕ) (words : List ℕ) → InRing q m (part words at) → {k : ℕ} → at ≤ k → k < at + m → getD words k 0 < q
-part-ring {q} at words ring {k} s l =
-    let e : at + (k - at) ≡ k = omega arith in
-    subst (λ (j : ℕ). getD words j 0 < q) e (ring (k - at) (omega arith))
-
-pub wrote-ring : {q at n m : ℕ} {f : ℕ → ℕ} {old new : List ℕ} → Wrote at n f old new → InRing q n f → InRing q m (elementOf old) → InRing q m (elementOf new)
-wrote-ring {at = at} {n = n} {new = new} w h g k l =
-    elim (decLt k at) [
-      | yes s ↦ rw (w .before k s) (g k l)
-      | no s ↦ elim (decLt k (at + n)) [
-        | yes u ↦ part-ring at new (λ i t. rw (w .inside i t) (h i t)) (omega arith) u
-        | no u ↦ rw (w .after k (omega arith)) (g k l)
-      ]
-    ]
-
-pub upper-ring : {q m n : ℕ} (at : ℕ) {a : Element} → InRing q n a → at + m ≤ n → InRing q m (upper at a)
-upper-ring at ring fit k l = ring (at + k) (omega arith)
-
-pub joined : {q m h : ℕ} {product first second new : List ℕ} → m + m + m ≤ length product → m ≡ h + h → first ≡ elementTaken m q 0 (m + m) product → second ≡ elementTaken m q m (m + m) first
-    → new ≡ elementAdded m q (m + m) h second → Joined q m h product new
-joined {q} {m} {h} {product} {first} {second} fit half e g d =
+pub joined : {q m h at free : ℕ} {words first second new : List ℕ} → at + (m + m) ≤ free → free + m ≤ length words → m ≡ h + h
+    → first ≡ elementTaken m q at free words → second ≡ elementTaken m q (at + m) free first → new ≡ elementAdded m q free (at + h) second → Joined q m h at free words new
+joined {q} {m} {h} {at} {free} {words} {first} {second} room fit half e g d =
     let u = wrote (omega arith) e in
     let v = wrote {old = first} (omega (arith, u .as-long)) g in
     let w = wrote {old = second} (omega (arith, u .as-long, v .as-long)) d in
     record {
       low = λ k l. w .before k l ∙ v .before k (omega arith) ∙ u .before k (omega arith);
       middle = λ k l. w .inside k l
-          ∙ ap₂ (λ x y. (x + y) % q) (v .before (h + k) (omega arith) ∙ u .before (h + k) (omega arith))
-          (v .inside k l ∙ ap₂ (λ x y. (x + (q - y)) % q) (u .inside k l) (u .before (m + k) (omega arith)));
-      high = λ k s l. w .after k s ∙ v .before k (omega arith) ∙ u .before k (omega arith);
+          ∙ ap₂ (λ x y. (x + y) % q) (v .before (at + h + k) (omega arith) ∙ u .before (at + h + k) (omega arith))
+          (v .inside k l ∙ ap₂ (λ x y. (x + (q - y)) % q) (u .inside k l) (u .before (at + m + k) (omega arith)));
+      high = λ k s l. w .after k s ∙ v .before k l ∙ u .before k l;
     }

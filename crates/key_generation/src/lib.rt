@@ -22,7 +22,6 @@ ghost use Rattle.values.specs.Folding.{Sizes, flat};
 ghost use Rattle.key_generation.specs.Keys.{drawnWords, Ready, SecretWritten, KeysWritten};
 use draws::Run;
 use parameters::Parameters;
-use parameters::lengths;
 use parameters::refusals;
 
 // The elements of every term but the constant, from the octets after the secret's, into the third part of the work words and those after.
@@ -55,7 +54,7 @@ fn draw_half(random: &[u8], at: usize, p: Parameters, words: &mut [u32], octets:
     ensures { λ _. ⌜ (now (words .exit) ≡ secretDrawn (setFrom p) (drop at (now (random .entry)))) × (now (octets .exit) ≡ packed (smallBits (p .l)) (smallLength (setFrom p)) (secretDrawn (setFrom p) (drop at (now (random .entry))))) ⌝ }
 {
     draws::draw_secret(random, at, p, words);
-    packing::pack(words, lengths::bits(p.l), octets);
+    packing::pack(words, parameters::bits(p.l), octets);
 }
 
 // u_x and u_y, drawn into the first two parts of the work words, and their octets.
@@ -79,7 +78,7 @@ fn write_constant(public: &mut [u8], d: usize, n: usize, qlen: usize, q: u32, wo
 {
     values::evaluate(public, d, n, qlen, q, work);
     let at = 2 * n;
-    ring::negate(work, at, n, q);
+    ring_multiples::negate(work, at, n, q);
     let stop = at + n;
     let from = public.len() - n * qlen;
     octets::encode(&work[at..stop], qlen, &mut public[from..]);

@@ -1,6 +1,7 @@
 -- Why the judge's number tells whether a key's or a ciphertext's coefficients fit: octets of the exact length are the coefficients of its elements.
 --
---   judged-fits       0: each is below q
+--   fitNumber-fits    0 of a list: each is below q
+--   judged-fits       0 of octets: each is below q
 --   judged-refused    any other number: some is not
 -- Assumes nothing.
 use Prim.Native.Nat.{ℕ, _/_}
@@ -18,7 +19,7 @@ use Rattle.definitions.proofs.Refusals.{firstRefusal-passed, firstRefusal-last}
 use Rattle.definitions.proofs.Parameters.{Accepted, elementsLength-count}
 use Rattle.octets.specs.Reading.{fitNumber}
 
-fitNumber-fits : (q : ℕ) (xs : List ℕ) → fitNumber q xs ≡ 0 → coefficientsFit q xs ≡ true
+pub fitNumber-fits : (q : ℕ) (xs : List ℕ) → fitNumber q xs ≡ 0 → coefficientsFit q xs ≡ true
 unfolding fitNumber
 fitNumber-fits q xs e = not-false _ (firstRefusal-passed 8 _ [] (lit< tt) e .0)
 

@@ -107,6 +107,12 @@ take-stored at k x l h =
     rw (← append-assoc (take at l) (octetsOf k x) (drop (at + k) l))
     (take-at (take at l ++ octetsOf k x) (drop (at + k) l) (at + k) (stored-front at k x l h))
 
+-- and up to the last but one
+pub take-stored-less : (at k x : ℕ) (l : List ℕ) → at + suc k ≤ length l → take (at + k) (stored at (suc k) x l) ≡ take at l ++ octetsOf k x
+take-stored-less at k x l h =
+    let apart : stored at (suc k) x l ≡ (take at l ++ octetsOf k x) ++ (x / 256 ^ k % 256 ∷ drop (at + suc k) l) = rw (octetsOf-snoc k x) (simp append-assoc) in
+    rw apart (take-at (take at l ++ octetsOf k x) _ (at + k) (stored-front at k x l (omega arith)))
+
 pub encoded-snoc : (qlen : ℕ) (xs : List ℕ) (x : ℕ) → encoded qlen (xs ++ (x ∷ [])) ≡ encoded qlen xs ++ octetsOf qlen x
 encoded-snoc qlen xs x =
     let one : encoded qlen (x ∷ []) ≡ octetsOf qlen x = unfold encoded joined in append-nil (octetsOf qlen x) in
@@ -121,21 +127,24 @@ module _ (m qlen : ℕ) {count total : ℕ} (inside : m < count) (exact : count 
   pub place-fits : {bound : ℕ} → total < bound → m * qlen < bound
   place-fits h = omega (arith, place-end)
 
--- a turn of a loop that stores the octets of the word at place m
+-- a turn of a loop that stores the octets of the word at place m, and perhaps one octet more
+encode-turn : (m qlen : ℕ) (words l r : List ℕ) → m < length words → take (m * qlen + qlen) r ≡ take (m * qlen) l ++ octetsOf qlen (getD words m 0)
+    → take (m * qlen) l ≡ encoded qlen (take m words) → take ((m + 1) * qlen) r ≡ encoded qlen (take (m + 1) words)
+encode-turn m qlen words l r inside e before =
+    let next : (m + 1) * qlen ≡ m * qlen + qlen = omega arith in
+    rw (next, e, before, add-one m, take-suc words m 0 inside, encoded-snoc qlen (take m words) (getD words m 0))
+
 pub encode-step : (m qlen : ℕ) (words l : List ℕ) {r : List ℕ} → m < length words → length words * qlen ≤ length l
     → r ≡ stored (m * qlen) qlen (getD words m 0) l → take (m * qlen) l ≡ encoded qlen (take m words)
     → take ((m + 1) * qlen) r ≡ encoded qlen (take (m + 1) words)
-encode-step m qlen words l inside exact e before =
-    let next : (m + 1) * qlen ≡ m * qlen + qlen = omega arith in
-    rw (
-      next,
-      e,
-      take-stored (m * qlen) qlen (getD words m 0) l (place-end m qlen inside exact),
-      before,
-      add-one m,
-      take-suc words m 0 inside,
-      encoded-snoc qlen (take m words) (getD words m 0),
-    )
+encode-step m qlen words l inside exact e =
+    encode-turn m qlen words l _ inside (ap (take (m * qlen + qlen)) e ∙ take-stored (m * qlen) qlen (getD words m 0) l (place-end m qlen inside exact))
+
+pub encode-step-over : (m qlen : ℕ) (words l : List ℕ) {r : List ℕ} → m < length words → m * qlen + suc qlen ≤ length l
+    → r ≡ stored (m * qlen) (suc qlen) (getD words m 0) l → take (m * qlen) l ≡ encoded qlen (take m words)
+    → take ((m + 1) * qlen) r ≡ encoded qlen (take (m + 1) words)
+encode-step-over m qlen words l inside fit e =
+    encode-turn m qlen words l _ inside (ap (take (m * qlen + qlen)) e ∙ take-stored-less (m * qlen) qlen (getD words m 0) l fit)
 
 pub encode-end : (m qlen : ℕ) (words l : List ℕ) → length words ≡ m → length l ≡ length words * qlen
     → take (m * qlen) l ≡ encoded qlen (take m words) → l ≡ encoded qlen words

@@ -1,7 +1,9 @@
 // Coefficients of qlen octets, least significant first (01, "Ring, monomials, octets"): read, judged, decoded and encoded.
 // A coefficient that is not below q is refused with 8 (01, "Refusal table"). The contracts cite the definitions' coefficientAt, decoded,
 // encoded and coefficientsFit. Each loop is written once, with qlen as a variable; `decode` and its kin call it with a constant, so that
-// the compiler makes a loop for each qlen.
+// the compiler makes a loop for each qlen. Three octets have loops of their own.
+mod threes;
+
 ghost use mathlib.Core.Path.{_≡_};
 ghost use mathlib.Core.List.{_++_};
 ghost use Prim.Native.Nat.{ℕ, _+_, _*_, _/_, _≤_, _<_};
@@ -94,7 +96,7 @@ pub fn judge(octets: &[u8], qlen: usize, q: u32) -> u32
         return judge_by(octets, 2, q);
     }
     if qlen == 3 {
-        return judge_by(octets, 3, q);
+        return threes::judge(octets, q);
     }
     judge_by(octets, 4, q)
 }
@@ -124,7 +126,7 @@ pub fn decode(octets: &[u8], qlen: usize, words: &mut [u32])
         return;
     }
     if qlen == 3 {
-        decode_by(octets, 3, words);
+        threes::decode(octets, words);
         return;
     }
     decode_by(octets, 4, words);
@@ -195,7 +197,7 @@ pub fn encode(words: &[u32], qlen: usize, octets: &mut [u8])
         return;
     }
     if qlen == 3 {
-        encode_by(words, 3, octets);
+        threes::encode(words, octets);
         return;
     }
     encode_by(words, 4, octets);

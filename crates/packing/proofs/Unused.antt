@@ -2,19 +2,22 @@
 --
 --   ClearTo          the octets before a place have no bit set from bit `used` on
 --   clearTo-step       one octet more
---   paddingNumber-.. what the test of the unused bits answers
+--   paddingNumber-.. what the test of the unused bits answers;  -passed, -refused: and what its answer says
 -- Assumes nothing.
 use Prim.Native.Nat.{ℕ, _+_, _-_, _*_, _/_, _%_, _^_, _≤_, _<_}
 use mathlib.Core.Path.{_≡_, refl, sym, ap, _∙_}
-use mathlib.Core.Bool.{Bool, true, false}
-use mathlib.Core.List.{List}
+use mathlib.Core.Bool.{Bool, true, false, not}
+use mathlib.Core.List.{List, [], _∷_}
 use native.Mathlib.Nat.{zero-div, mul-zero}
 use native.Mathlib.Decide.{decLt}
 use native.Mathlib.Omega.{arith}
+use borrow.Author.Tests.{not-false}
+use lib.Dec.{lit<}
 use lib.Pow.{shr-shr, shr-lt}
 use lib.ListN.{length, getD}
-use Rattle.definitions.specs.Refusals.{firstRefusal}
+use Rattle.definitions.specs.Refusals.{refuse, firstRefusal}
 use Rattle.definitions.specs.Octets.{bitAt, paddingClear}
+use Rattle.definitions.proofs.Refusals.{firstRefusal-passed, firstRefusal-last}
 use Rattle.definitions.proofs.Sums.{sum-zero}
 use Rattle.definitions.proofs.Packing.{binary-bits, bitAt-digit, paddingClear-at, paddingClear-true}
 use Rattle.packing.specs.Fields.{paddingNumber}
@@ -59,3 +62,15 @@ module _ (used : ℕ) (octets : List ℕ) where
           absurd (set (clear-octet (getD octets i 0) (used - 8 * i) (omega arith) octet
           (λ j s. let inside : used - 8 * i + j < 8 = omega arith in
           sym (bitAt-digit 8 octets i inside) ∙ paddingClear-at used octets (i * 8 + (used - 8 * i + j)) e (omega arith))))
+
+  pub paddingNumber-passed : paddingNumber used octets ≡ 0 → paddingClear used octets ≡ true
+  unfolding paddingNumber
+  paddingNumber-passed e = not-false _ (firstRefusal-passed 7 _ [] (lit< tt) e .0)
+
+  pub paddingNumber-refused : (paddingNumber used octets ≡ 0 → ⊥) → paddingClear used octets ≡ false
+  unfolding paddingNumber
+  paddingNumber-refused e = go (paddingClear used octets) e
+    where
+      go : (t : Bool) → (firstRefusal (refuse 7 (not t) ∷ []) ≡ 0 → ⊥) → t ≡ false
+      go true e = absurd (e (firstRefusal-last 7 false refl))
+      go false e = refl

@@ -1,19 +1,17 @@
--- How large what a set fixes can be, whatever its numbers, and the limits that tests 2 to 4 give.
+-- How large b can be, whatever ℓ is, and the limits that tests 2 and 3 give.
 --
 --   Within               least ≤ x ≤ most
 --   smallBits-within     b is 1 to 4, for every ℓ
---   monomialCount-le     (d + 1)(d + 2)/2 is at most 15 for d up to 4
 --   isDegree-leb         1 and 2 are the numbers from 1 to 2
 --   ringFits-within, degreeFits-within     the limits of n, and of dX and dr
 -- Assumes nothing.
-use Prim.Native.Nat.{ℕ, zero, suc, _+_, _≤_}
-use native.Mathlib.Nat.{mul-le-mul}
+use Prim.Native.Nat.{ℕ, zero, suc, _≤_}
 use native.Mathlib.Omega.{arith}
 use mathlib.Core.Path.{_≡_, refl}
 use mathlib.Core.Bool.{Bool, true, false, cond, _&&_}
 use lib.Dec.{eqb, leb}
 use borrow.Author.Tests.{leb-true, le-leb, lt-leb, ne-eqb}
-use Rattle.definitions.specs.Parameters.{Parameters, isDegree, smallBits, monomialCount, ringFits, degreeFits}
+use Rattle.definitions.specs.Parameters.{Parameters, isDegree, smallBits, ringFits, degreeFits}
 use Rattle.definitions.proofs.Tests.{both-true}
 
 pub record Within (low high x : ℕ) : Type 0 where
@@ -29,13 +27,6 @@ unfolding smallBits
 smallBits-within l =
     cond-within (eqb l 2) (omega arith)
     (cond-within (eqb l 4) (omega arith) (cond-within (eqb l 8) (omega arith) (omega arith)))
-
-pub monomialCount-le : (d : ℕ) → d ≤ 4 → monomialCount d ≤ 15
-unfolding monomialCount
-monomialCount-le d h =
-    let five : d + 1 ≤ 5 = omega arith in
-    let six : d + 2 ≤ 6 = omega arith in
-    omega (arith, mul-le-mul five six)
 
 pub isDegree-leb : (d : ℕ) → isDegree d ≡ (leb 1 d && leb d 2)
 isDegree-leb zero = refl

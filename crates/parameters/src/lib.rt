@@ -1,14 +1,13 @@
-// A parameter set (01, "The parameter set"): its tests, its noise bound and headroom, and the lengths that it fixes.
+// A parameter set (01, "The parameter set"): its tests, its noise bound and headroom, and the bits of a small coefficient.
 // A set that fails a test is refused with 1 to 5, the lowest that applies; nothing wraps, whatever the six numbers are.
-// The contracts cite the definitions' setTests and limitsAnswer, through specs/Answers.antt. Every call that takes a set tests it by
-// `refusal`.
-pub mod lengths;
+// The contracts cite the definitions' setTests and limitsAnswer, through specs/Answers.antt, and smallBits. Every call that takes a set
+// tests it by `refusal`.
 pub mod refusals;
 mod tests;
 
 ghost use mathlib.Core.Path.{_≡_};
 ghost use Rattle.definitions.specs.Refusals.{firstRefusal};
-ghost use Rattle.definitions.specs.Parameters.{setTests, limitsAnswer};
+ghost use Rattle.definitions.specs.Parameters.{smallBits, setTests, limitsAnswer};
 ghost use Rattle.parameters.specs.Answers.{setFrom, setAnswer, checkedAs, limitsAs};
 
 pub struct Parameters {
@@ -101,4 +100,16 @@ pub fn limits(p: Parameters) -> LimitsAnswer
         bound,
         headroom: (p.q - 1) / bound,
     })
+}
+
+// b: the bits of a small coefficient.
+pub fn bits(l: u32) -> u32
+    ensures { λ r. ⌜ r ≡ smallBits l ⌝ }
+{
+    match l {
+        2 => 1,
+        4 => 2,
+        8 => 3,
+        _ => 4,
+    }
 }

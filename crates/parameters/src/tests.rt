@@ -1,6 +1,6 @@
 // The five tests of a set, one function each, and the noise bound that the fourth compares with.
 use super::Parameters;
-use super::lengths::bits;
+use super::bits;
 ghost use mathlib.Core.Path.{_≡_};
 ghost use mathlib.Core.Bool.{true, _&&_};
 ghost use Prim.Native.Nat.{_≤_, min};

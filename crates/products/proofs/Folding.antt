@@ -67,20 +67,20 @@ conv-linear n a b {k} l = sum-cong n (λ i s. row i s) ∙ sum-add n (λ i. a i 
         ∙ mul-add (a i) (moved i k) (moved i (n + k))
 
 -- f and g are the factors, reduced and filled up to m, and p their product, reduced: its fold is the product in R_q
-module _ (n m q : ℕ) (a b f g : Element) (p : List ℕ) (fits : n ≤ m) (left : Loaded n m q a f) (right : Loaded n m q b g) (same : (k : ℕ) → k < m + m → getD p k 0 ≡ linear m f g k % q) where
-  product-cong : (k : ℕ) → k < m + m → Cong q (getD p k 0) (linear n f g k)
+module _ (n m q : ℕ) (a b f g p : Element) (fits : n ≤ m) (left : Loaded n m q a f) (right : Loaded n m q b g) (same : (k : ℕ) → k < m + m → p k ≡ linear m f g k % q) where
+  product-cong : (k : ℕ) → k < m + m → Cong q (p k) (linear n f g k)
   product-cong k l = rw (same k l, linear-padded n m f g fits (left .outside) (right .outside) k) (cong-mod q (linear n f g k))
 
   factor-cong : {e h : Element} → Loaded n m q e h → (i : ℕ) → i < n → Cong q (h i) (e i)
   factor-cong {e} l i s = rw (l .inside i s) (cong-mod q (e i))
 
-  product-folded : (x : ℕ) {k : ℕ} → k < n → (getD p k 0 + getD p (n + k) 0 + x) % q ≡ (conv n a b k + x) % q
+  product-folded : (x : ℕ) {k : ℕ} → k < n → (p k + p (n + k) + x) % q ≡ (conv n a b k + x) % q
   product-folded x {k} l =
-      let parts : Cong q (getD p k 0 + getD p (n + k) 0) (linear n f g k + linear n f g (n + k)) = cong-add (product-cong k (omega arith)) (product-cong (n + k) (omega arith)) in
+      let parts : Cong q (p k + p (n + k)) (linear n f g k + linear n f g (n + k)) = cong-add (product-cong k (omega arith)) (product-cong (n + k) (omega arith)) in
       let whole : Cong q (linear n f g k + linear n f g (n + k)) (conv n a b k) = rw (← conv-linear n f g l) (conv-cong-modulo n (factor-cong left) (factor-cong right) k) in
       cong-add (cong-trans parts whole) (cong-refl {x = x}) .same
 
-  pub product-added : (at : ℕ) (old new : List ℕ) → new ≡ written at (tabulate n (λ k. (getD p k 0 + getD p (n + k) 0 + part old at k) % q)) old → new ≡ written at (tabulate n (λ k. (conv n a b k + part old at k) % q)) old
+  pub product-added : (at : ℕ) (old new : List ℕ) → new ≡ written at (tabulate n (λ k. (p k + p (n + k) + part old at k) % q)) old → new ≡ written at (tabulate n (λ k. (conv n a b k + part old at k) % q)) old
   product-added at old new e = e ∙ ap (λ (l : List ℕ). written at l old) (tabulate-cong n (λ k l. product-folded (part old at k) l))
 
 -- ---- sums that are not reduced

@@ -50,7 +50,7 @@ module _ (at n q : ℕ) (f : ℕ → ℕ) (old : List ℕ) where
       ∙ written-written at (tabulate n (λ k. f k % q)) (tabulate n f) old long (omega (arith, length-tabulate n f))
 
 -- a at the front of words that were 0, then b at m
-module _ (n m q : ℕ) (a b : Element) (old mid new : List ℕ) (fits : n ≤ m) (room : 4 * m ≤ length old) (clear : InRing 1 (4 * m) (elementOf old)) (front : mid ≡ written 0 (tabulate n (λ k. a k % q)) old) (behind : new ≡ written m (tabulate n (λ k. b k % q)) mid) where
+module _ (n m q : ℕ) (a b : Element) (old mid new : List ℕ) (fits : n ≤ m) (room : 2 * m ≤ length old) (clear : InRing 1 (2 * m) (elementOf old)) (front : mid ≡ written 0 (tabulate n (λ k. a k % q)) old) (behind : new ≡ written m (tabulate n (λ k. b k % q)) mid) where
   length-front : length (tabulate n (λ k. a k % q)) ≡ n
   length-front = length-tabulate n (λ k. a k % q)
 
@@ -60,7 +60,7 @@ module _ (n m q : ℕ) (a b : Element) (old mid new : List ℕ) (fits : n ≤ m)
   length-mid : length mid ≡ length old
   length-mid = ap length front ∙ length-written-tabulate 0 n (λ k. a k % q) old (omega arith)
 
-  mid-past : (j : ℕ) → n ≤ j → j < 4 * m → getD mid j 0 ≡ 0
+  mid-past : (j : ℕ) → n ≤ j → j < 2 * m → getD mid j 0 ≡ 0
   mid-past j h l =
       ap (λ (w : List ℕ). getD w j 0) front
       ∙ getD-written-after 0 (tabulate n (λ k. a k % q)) old zero-le (omega (arith, length-front))

@@ -1,4 +1,4 @@
-// Products in R_q over the work words (01, "Ring, monomials, octets"): the product of two polynomials by Karatsuba, in arrays of its
+// Products in R_q over the work words (01, "Ring, monomials, octets"): the product of two polynomials by Karatsuba, in an array of its
 // own, then t^n = 1 and one reduction; a short one is summed row by row from where its factors stand. Nothing is refused: callers keep
 // parts within the words and coefficients below q. Contracts cite ring's productAdded; those of the steps also specs/Halvings.antt.
 ghost use mathlib.Core.Path.{_≡_};
@@ -19,43 +19,23 @@ struct Halving {
     m: usize,
 }
 
-// To so many leaves.
-fn halved(n: usize, levels: usize, leaves: usize) -> Halving
-    requires { ⌜ (0 < leaves) × (leaves ≤ 64) × (leaves ≡ 2 ^ levels) × (4096 % leaves ≡ 0) × (n ≤ 80 * leaves) × (n ≤ 4096) ⌝ }
+// To the fewest leaves: twice as many until they are short enough.
+fn split(n: usize) -> Halving
+    requires { ⌜ n ≤ 4096 ⌝ }
     ensures { λ r. ⌜ Fit n r ⌝ }
 {
+    let mut levels = 0;
+    let mut leaves = 1;
+    while 80 * leaves < n {
+        levels += 1;
+        leaves += leaves;
+    }
     let leaf = (n + (leaves - 1)) / leaves;
     Halving {
         levels: levels,
         leaf: leaf,
         m: leaf * leaves,
     }
-}
-
-// To the fewest leaves.
-fn split(n: usize) -> Halving
-    requires { ⌜ n ≤ 4096 ⌝ }
-    ensures { λ r. ⌜ Fit n r ⌝ }
-{
-    if n <= 80 {
-        return halved(n, 0, 1);
-    }
-    if n <= 160 {
-        return halved(n, 1, 2);
-    }
-    if n <= 320 {
-        return halved(n, 2, 4);
-    }
-    if n <= 640 {
-        return halved(n, 3, 8);
-    }
-    if n <= 1280 {
-        return halved(n, 4, 16);
-    }
-    if n <= 2560 {
-        return halved(n, 5, 32);
-    }
-    halved(n, 6, 64)
 }
 
 // The element at from to a place of other words.
@@ -103,14 +83,16 @@ fn folded(x: u32, y: u32, z: u32, q: u32, reciprocal: u64) -> u32
     reduction::remainder(s, q, reciprocal)
 }
 
-// t^n = 1: the places from n on come to those from 0 on, and c is added.
-fn fold(work: &mut [u32], c: usize, n: usize, q: u32, reciprocal: u64, product: &[u32])
-    requires { ⌜ (c + n ≤ length (now work)) × (n + n ≤ length (now product)) × (0 < q) × (q < 2147483648) × (reciprocal ≡ 18446744073709551615 / q) ⌝ }
-    ensures { λ _. ⌜ now (work .exit) ≡ written c (tabulate n (λ k. (getD (now (product .entry)) k 0 + getD (now (product .entry)) (n + k) 0 + part (now (work .entry)) c k) % q)) (now (work .entry)) ⌝ }
+// t^n = 1: of the product that stands from at on in other words, the places from n on come to those from 0 on, and c is added.
+fn fold(work: &mut [u32], c: usize, n: usize, q: u32, reciprocal: u64, words: &[u32], at: usize)
+    requires { ⌜ (c + n ≤ length (now work)) × (at + (n + n) ≤ length (now words)) × (0 < q) × (q < 2147483648) × (reciprocal ≡ 18446744073709551615 / q) ⌝ }
+    ensures { λ _. ⌜ now (work .exit) ≡ written c (tabulate n (λ k. (part (now (words .entry)) at k + part (now (words .entry)) at (n + k) + part (now (work .entry)) c k) % q)) (now (work .entry)) ⌝ }
 {
     let mut k = 0;
     while k < n {
-        work[c + k] = folded(product[k], product[n + k], work[c + k], q, reciprocal);
+        let low = words[at + k];
+        let high = words[at + (n + k)];
+        work[c + k] = folded(low, high, work[c + k], q, reciprocal);
         k += 1;
     }
 }
@@ -141,7 +123,8 @@ fn short(work: &mut [u32], a: usize, b: usize, c: usize, n: usize, q: u32, top: 
     fold_sums(work, c, n, q, reciprocal, &low);
 }
 
-// In place c := a × b + c in R_q, in words of other arrays; top is a bound of b's coefficients modulo q.
+// In place c := a × b + c in R_q, in other words: a from 0 on and b from m on, each filled up with 0, their product from 2 m on, and behind
+// it the words that Karatsuba's product needs; top is a bound of b's coefficients modulo q.
 fn multiply_in(
     work: &mut [u32],
     a: usize,
@@ -152,24 +135,25 @@ fn multiply_in(
     top: u32,
     h: Halving,
     words: &mut [u32],
-    product: &mut [u32],
 )
     requires { ⌜ (a + n ≤ length (now work)) × (b + n ≤ length (now work)) × (c + n ≤ length (now work)) × (0 < q) × (q < 2147483648) ⌝ }
-    requires { ⌜ Fit n h × (4 * h .m ≤ length (now words)) × (4 * h .m ≤ length (now product)) × InRing 1 (4 * h .m) (elementOf (now words)) ⌝ }
+    requires { ⌜ Fit n h × (6 * h .m ≤ length (now words)) × InRing 1 (2 * h .m) (elementOf (now words)) ⌝ }
     requires { ⌜ (0 < top) × (top ≤ q) × InRing q n (part (now work) a) × InRing top n (modulo q (part (now work) b)) × (16 ≤ q → InRing q n (part (now work) b)) ⌝ }
     ensures { λ _. ⌜ now (work .exit) ≡ productAdded n q a b c (now (work .entry)) ⌝ }
 {
     let m = h.m;
     let levels = h.levels;
     let leaf = h.leaf;
+    let at = m + m;
+    let free = at + at;
     load(words, 0, work, a, n, q);
     load(words, m, work, b, n, q);
     let reciprocal = reduction::reciprocal(q);
-    karatsuba::multiply(words, levels, leaf, m, q, top, reciprocal, product);
-    fold(work, c, n, q, reciprocal, product);
+    karatsuba::multiply(words, 0, m, at, free, levels, leaf, m, q, top, reciprocal);
+    fold(work, c, n, q, reciprocal, words, at);
 }
 
-// The same in arrays of the least of three sizes: what they are cleared by is then little beside the product.
+// The same in an array of the least of three sizes: what it is cleared by is then little beside the product.
 fn multiply_below(work: &mut [u32], a: usize, b: usize, c: usize, n: usize, q: u32, top: u32)
     requires { ⌜ (a + n ≤ length (now work)) × (b + n ≤ length (now work)) × (c + n ≤ length (now work)) × (n ≤ 4096) × (0 < q) × (q < 2147483648) ⌝ }
     requires { ⌜ (0 < top) × (top ≤ q) × InRing q n (part (now work) a) × InRing top n (modulo q (part (now work) b)) × (16 ≤ q → InRing q n (part (now work) b)) ⌝ }
@@ -178,20 +162,33 @@ fn multiply_below(work: &mut [u32], a: usize, b: usize, c: usize, n: usize, q: u
     let h = split(n);
     let m = h.m;
     if m <= 80 {
-        let mut words = [0u32; 320];
-        let mut product = [0u32; 320];
-        multiply_in(work, a, b, c, n, q, top, h, &mut words, &mut product);
+        let mut words = [0u32; 480];
+        multiply_in(work, a, b, c, n, q, top, h, &mut words);
         return;
     }
     if m <= 1280 {
-        let mut words = [0u32; 5120];
-        let mut product = [0u32; 5120];
-        multiply_in(work, a, b, c, n, q, top, h, &mut words, &mut product);
+        let mut words = [0u32; 7680];
+        multiply_in(work, a, b, c, n, q, top, h, &mut words);
         return;
     }
-    let mut words = [0u32; 16384];
-    let mut product = [0u32; 16384];
-    multiply_in(work, a, b, c, n, q, top, h, &mut words, &mut product);
+    let mut words = [0u32; 24576];
+    multiply_in(work, a, b, c, n, q, top, h, &mut words);
+}
+
+// In place c := a × b + c in R_q; limit is a bound of b's coefficients.
+fn multiply_bounded(work: &mut [u32], a: usize, b: usize, c: usize, n: usize, q: u32, limit: u32)
+    requires { ⌜ (a + n ≤ length (now work)) × (b + n ≤ length (now work)) × (c + n ≤ length (now work)) × (n ≤ 4096) × (0 < q) × (q < 2147483648) ⌝ }
+    requires { ⌜ (0 < limit) × (limit < 2147483648) × InRing q n (part (now work) a) × InRing limit n (part (now work) b) × (16 ≤ q → InRing q n (part (now work) b)) ⌝ }
+    ensures { λ _. ⌜ now (work .exit) ≡ productAdded n q a b c (now (work .entry)) ⌝ }
+{
+    if n <= SHORT {
+        if (q as u64) * (limit as u64) <= rows::UNCUT {
+            short(work, a, b, c, n, q, limit);
+            return;
+        }
+    }
+    let top = if q < limit { q } else { limit };
+    multiply_below(work, a, b, c, n, q, top);
 }
 
 // In place c := a × b + c in R_q; all other words are kept.
@@ -200,13 +197,7 @@ pub fn multiply_add(work: &mut [u32], a: usize, b: usize, c: usize, n: usize, q:
     requires { ⌜ InRing q n (part (now work) a) × InRing q n (part (now work) b) ⌝ }
     ensures { λ _. ⌜ now (work .exit) ≡ productAdded n q a b c (now (work .entry)) ⌝ }
 {
-    if n <= SHORT {
-        if (q as u64) * (q as u64) <= rows::UNCUT {
-            short(work, a, b, c, n, q, q);
-            return;
-        }
-    }
-    multiply_below(work, a, b, c, n, q, q);
+    multiply_bounded(work, a, b, c, n, q, q);
 }
 
 // As multiply_add, where the coefficients of b are below 16.
@@ -215,10 +206,5 @@ pub fn multiply_add_small(work: &mut [u32], a: usize, b: usize, c: usize, n: usi
     requires { ⌜ InRing q n (part (now work) a) × InRing 16 n (part (now work) b) ⌝ }
     ensures { λ _. ⌜ now (work .exit) ≡ productAdded n q a b c (now (work .entry)) ⌝ }
 {
-    if n <= SHORT {
-        short(work, a, b, c, n, q, 16);
-        return;
-    }
-    let top = if q < 16 { q } else { 16 };
-    multiply_below(work, a, b, c, n, q, top);
+    multiply_bounded(work, a, b, c, n, q, 16);
 }

@@ -10,7 +10,7 @@ use borrow.Author.Tests.{not-true, not-false}
 use Rattle.definitions.specs.Refusals.{Answer, untouched}
 use Rattle.definitions.specs.Parameters.{Limits, limitsAnswer}
 use Rattle.definitions.specs.Roomsheet.{Text, wellFormed, numbersOf, setOf, limitsText, lineAnswer}
-use Rattle.roomsheet_lines.specs.Numbers.{NumbersRead}
+use Rattle.roomsheet_parse.specs.Numbers.{NumbersRead}
 
 module _ (line : Text) (read : Bool) (numbers : List ℕ) (n : NumbersRead 6 line read numbers) where
   pub judged-malformed : not read ≡ true → limitsText (untouched 11) ≡ lineAnswer line

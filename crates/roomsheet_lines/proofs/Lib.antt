@@ -1,9 +1,4 @@
--- Laws of parts, numbers and printed text.
-pub mod Parts
-pub mod Digits
-pub mod Numbers
-pub mod Fields
-pub mod Printing
+-- Laws of the answer to a line, and of a text answered line after line.
 pub mod Judging
-pub mod Streams
-pub mod Buffers
+pub mod Texts
+pub mod Answering

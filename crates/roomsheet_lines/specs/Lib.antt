@@ -1,4 +1,2 @@
 -- What the contracts cite besides the definitions.
-pub mod Parts
-pub mod Numbers
-pub mod Texts
+pub mod Answered

@@ -10,7 +10,7 @@ use mathlib.Core.List.{List}
 use native.Mathlib.Omega.{arith}
 use borrow.Rule.Slice.PartMut.{putMid, take-put}
 use lib.ListN.{length, take, drop, length-take, length-drop}
-use Rattle.roomsheet_lines.specs.Parts.{upTo}
+use Rattle.roomsheet_parse.specs.Parts.{upTo}
 use Rattle.roomsheet_run.specs.Kept.{Kept, ReadSome}
 
 pub read-into : (before octets : List ℕ) (kept n r : ℕ) → kept ≤ length before → length (putMid kept n before octets) ≡ length before → r ≤ length (take n (drop kept (putMid kept n before octets))) → ReadSome before kept r (putMid kept n before octets)

@@ -7,7 +7,7 @@ use Prim.Native.Nat.{ℕ, _+_, _≤_}
 use mathlib.Core.Path.{_≡_}
 use mathlib.Core.List.{List}
 use lib.ListN.{length, take}
-use Rattle.roomsheet_lines.specs.Parts.{Without}
+use Rattle.roomsheet_parse.specs.Parts.{Without}
 
 pub record Kept (input : List ℕ) (kept : ℕ) : Type 0 where
   pub within : kept ≤ length input

@@ -6,10 +6,12 @@ use native.Mathlib.Decide.{decLt, decLe, ℕ-discrete}
 use native.Mathlib.Nat.{add-zero, zero-add, zero-mul, mul-zero, sub-zero, add-assoc, mul-le-mul, le-of-lt, lt-of-lt-of-le}
 use native.Mathlib.Omega.{arith}
 use mathlib.Core.Path.{_≡_, refl, sym, _∙_, ap, ap₂, subst}
-use mathlib.Core.List.{List}
+use mathlib.Core.List.{List, [], append-nil}
 use lib.Dec.{lit<}
 use borrow.Author.Tests.{lt-ltb, le-ltb, le-leb, lt-leb}
-use lib.ListN.{length, getD, replicate, length-replicate}
+use lib.ListN.{length, getD, replicate, take, drop, length-replicate, length-drop, drop-of-length-le}
+use lib.Seq.{take-all, drop-drop}
+use borrow.Rule.Slice.PartMut.{midOf, putMid}
 use Rattle.definitions.specs.Sequences.{sum, tabulate, sameNumber}
 use Rattle.definitions.specs.Ring.{Element, InRing, elementOf}
 use Rattle.definitions.proofs.Sums.{sameNumber-self, sameNumber-other, sum-cong, sum-append, sum-zero, sum-le, sum-const, sum-pick, sum-pick-outside, length-tabulate, tabulate-cong}
@@ -93,13 +95,14 @@ unfolding linear rowTerm
 linear-rows m a b k = sum-cong m (λ i l. ap₂ (λ (x y : ℕ). x * y) (sym (padded-inside m a l)) (shifted-pick m b i k))
 
 -- rows past the last hold nothing
-sum-rows-past : (m : ℕ) (a b : Element) (k : ℕ) {i : ℕ} → m ≤ i → sum i (rowTerm m a b k) ≡ linear m a b k
+row-term-past : (m : ℕ) (a b : Element) (k : ℕ) {i : ℕ} → m ≤ i → rowTerm m a b k i ≡ 0
 unfolding rowTerm
+row-term-past m a b k {i} h = rw (padded-outside m a h) (zero-mul (shifted m b i k))
+
+sum-rows-past : (m : ℕ) (a b : Element) (k : ℕ) {i : ℕ} → m ≤ i → sum i (rowTerm m a b k) ≡ linear m a b k
 sum-rows-past m a b k {i} h =
     let e : i ≡ m + (i - m) = omega arith in
-    let none : sum (i - m) (λ j. rowTerm m a b k (m + j)) ≡ 0 =
-    sum-zero (i - m) (λ j l. rw (padded-outside m a {i = m + j} (omega arith)) (zero-mul (shifted m b (m + j) k)))
-    in
+    let none : sum (i - m) (λ j. rowTerm m a b k (m + j)) ≡ 0 = sum-zero (i - m) (λ j l. row-term-past m a b k (omega arith)) in
     ap (λ (j : ℕ). sum j (rowTerm m a b k)) e
     ∙ sum-append m (i - m) (rowTerm m a b k)
     ∙ rw none (add-zero (sum m (rowTerm m a b k)) ∙ sym (linear-rows m a b k))
@@ -128,18 +131,19 @@ row-term-none : (m : ℕ) (a b : Element) (i k : ℕ) → shifted m b i k ≡ 0 
 unfolding rowTerm
 row-term-none m a b i k e = rw e (mul-zero (padded m a i))
 
-four-rows-none : (m : ℕ) (a b : Element) (i k : ℕ) → ((r : ℕ) → r ≤ 3 → shifted m b (i + r) k ≡ 0) → fourRows m a b i k ≡ 0
+four-rows-none : (m : ℕ) (a b : Element) (i k : ℕ) → ((j : ℕ) → i ≤ j → j ≤ i + 3 → rowTerm m a b k j ≡ 0) → fourRows m a b i k ≡ 0
 unfolding fourRows
-four-rows-none m a b i k h =
-    let none : (r : ℕ) → r ≤ 3 → rowTerm m a b k (i + r) ≡ 0 = λ r l. row-term-none m a b (i + r) k (h r l) in
-    let first : rowTerm m a b k i ≡ 0 = rw add-zero at (none 0 (omega arith)) in
-    omega (arith, none 1 (omega arith), none 2 (omega arith), none 3 (omega arith))
+four-rows-none m a b i k none =
+    omega (arith, none i (omega arith) (omega arith), none (i + 1) (omega arith) (omega arith), none (i + 2) (omega arith) (omega arith), none (i + 3) (omega arith) (omega arith))
 
 four-rows-before : (m : ℕ) (a b : Element) {i k : ℕ} → k < i → fourRows m a b i k ≡ 0
-four-rows-before m a b {i} {k} l = four-rows-none m a b i k (λ r s. shifted-before m b (omega arith))
+four-rows-before m a b {i} {k} l = four-rows-none m a b i k (λ j s u. row-term-none m a b j k (shifted-before m b (omega arith)))
 
 four-rows-after : (m : ℕ) (a b : Element) (i : ℕ) {k : ℕ} → i + (m + 3) ≤ k → fourRows m a b i k ≡ 0
-four-rows-after m a b i {k} l = four-rows-none m a b i k (λ r s. shifted-after m b (i + r) (omega arith))
+four-rows-after m a b i {k} l = four-rows-none m a b i k (λ j s u. row-term-none m a b j k (shifted-after m b j (omega arith)))
+
+four-rows-past : (m : ℕ) (a b : Element) {i : ℕ} (k : ℕ) → m ≤ i → fourRows m a b i k ≡ 0
+four-rows-past m a b {i} k h = four-rows-none m a b i k (λ j s u. row-term-past m a b k (omega arith))
 
 four-rows-small : (m : ℕ) (a b : Element) → InRing 2147483648 m a → InRing 2147483648 m b → (i k : ℕ) → fourRows m a b i k < 18446744073709551616
 unfolding fourRows rowTerm
@@ -167,19 +171,29 @@ written-at at n f g old h front inside rest k =
           ]
     ]
 
--- eight rows, added at the places that they reach, are added everywhere
+-- what is added at the places that it reaches is added everywhere
+reach-added : (f : ℕ → ℕ) (i n : ℕ) (old : List ℕ) {new : List ℕ} → i + n ≤ length old → ((k : ℕ) → k < i → f k ≡ 0) → ((k : ℕ) → i + n ≤ k → f k ≡ 0) →
+    new ≡ written i (tabulate n (λ k. part old i k + f (i + k))) old →
+    Added f old new
+reach-added f i n old h before after e k =
+    let nothing : (j : ℕ) → f j ≡ 0 → getD old j 0 ≡ getD old j 0 + f j = λ j x. omega arith in
+    rw e (written-at i n (λ j. part old i j + f (i + j)) (λ j. getD old j 0 + f j) old h (λ j l. nothing j (before j l)) (λ j l. refl) (λ j l. nothing j (after j l)) k)
+
 pub rows-added : (g : ℕ → ℕ) → g 0 ≡ 0 → (m : ℕ) (a b : Element) (i : ℕ) (old : List ℕ) {new : List ℕ} → i + (m + 7) ≤ length old →
     new ≡ written i (tabulate (m + 7) (λ k. part old i k + eightRows g m a b i (i + k))) old →
     Added (eightRows g m a b i) old new
-rows-added g none m a b i old h e k =
-    let nothing : (j : ℕ) → fourRows m a b i j ≡ 0 → fourRows m a b (i + 4) j ≡ 0 → getD old j 0 ≡ getD old j 0 + eightRows g m a b i j =
-    λ j x y. rw (x, y, none) (sym (add-zero (getD old j 0)))
-    in
-    rw e (written-at i (m + 7) (λ j. part old i j + eightRows g m a b i (i + j)) (λ j. getD old j 0 + eightRows g m a b i j) old h
-    (λ j l. nothing j (four-rows-before m a b l) (four-rows-before m a b (omega arith)))
-    (λ j l. refl)
-    (λ j l. nothing j (four-rows-after m a b i (omega arith)) (four-rows-after m a b (i + 4) (omega arith)))
-    k)
+rows-added g none m a b i old h =
+    reach-added (eightRows g m a b i) i (m + 7) old h
+    (λ k l. rw (four-rows-before m a b l, four-rows-before m a b {i = i + 4} {k = k} (omega arith), none))
+    (λ k l. rw (four-rows-after m a b i {k = k} (omega arith), four-rows-after m a b (i + 4) {k = k} (omega arith), none))
+
+-- where at most four rows are left, four are all
+pub last-rows-added : (m : ℕ) (a b : Element) (i : ℕ) (old : List ℕ) {new : List ℕ} → m ≤ i + 4 → i + (m + 3) ≤ length old →
+    new ≡ written i (tabulate (m + 3) (λ k. part old i k + fourRows m a b i (i + k))) old →
+    Added (eightRows (λ s. s) m a b i) old new
+last-rows-added m a b i old few h e k =
+    reach-added (fourRows m a b i) i (m + 3) old h (λ j l. four-rows-before m a b l) (λ j l. four-rows-after m a b i l) e k
+    ∙ omega (arith, four-rows-past m a b k few)
 
 -- ---- b after seven zeros and before others
 four-rows-sum : (m : ℕ) (a b : Element) (row : List ℕ) → Surrounded m b row → (i h p : ℕ) → i + h ≡ p + 4 → rowSum (factorsFrom m a i) row h ≡ fourRows m a b i p
@@ -278,6 +292,16 @@ cut-rows-more {m} {a} {b} {i} r h g d e =
 pub cut-rows-all : {m : ℕ} {a b : Element} {i : ℕ} {low high : List ℕ} → CutRows m a b i low high → m ≤ i → i < 88 → (k : ℕ) → Halves (linear m a b k) (getD low k 0) (getD high k 0)
 cut-rows-all {m} {a} {b} r h l k = rw (← sum-rows-past m a b k h) (summed-halves (r .sums k) l)
 
--- equal sums, reduced
-pub reduced-cong : (n q : ℕ) {f g : ℕ → ℕ} (old : List ℕ) → ((k : ℕ) → f k ≡ g k) → written 0 (tabulate n (λ k. f k % q)) old ≡ written 0 (tabulate n (λ k. g k % q)) old
-reduced-cong n q old h = ap (λ (l : List ℕ). written 0 l old) (tabulate-cong n (λ k l. ap (λ (x : ℕ). x % q) (h k)))
+-- ---- equal sums, reduced, at the front of the words from a place on, which were lent and given back
+lent-written : (at : ℕ) (new old : List ℕ) → at + length new ≤ length old → putMid at (length old - at) old (written 0 new (midOf at (length old - at) old)) ≡ written at new old
+unfolding written
+lent-written at new old h =
+    let all : take (length old - at) (drop at old) ≡ drop at old = take-all (length old - at) (drop at old) (omega (arith, length-drop at old)) in
+    let none : drop (length old - at) (drop at old) ≡ [] = drop-of-length-le (drop at old) {i = length old - at} (omega (arith, length-drop at old)) in
+    rw (all, none) (simp (append-nil, zero-add, drop-drop))
+
+pub reduced-lent : (at n q : ℕ) {f g : ℕ → ℕ} (old : List ℕ) {last : List ℕ} → at + n ≤ length old → ((k : ℕ) → f k ≡ g k) → last ≡ written 0 (tabulate n (λ k. f k % q)) (midOf at (length old - at) old) →
+    putMid at (length old - at) old last ≡ written at (tabulate n (λ k. g k % q)) old
+reduced-lent at n q {f} {g} old h same e =
+    rw e (lent-written at (tabulate n (λ k. f k % q)) old (omega (arith, length-tabulate n (λ k. f k % q))))
+    ∙ ap (λ (l : List ℕ). written at l old) (tabulate-cong n (λ k l. ap (λ (x : ℕ). x % q) (same k)))

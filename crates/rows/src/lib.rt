@@ -1,7 +1,7 @@
 // The product of two short polynomials, row by row (a leaf of Karatsuba's product): row i is a_i × b, shifted by i places, and eight rows
-// are added at a time, in 64 bits. Where eighty products may pass 2^64, each sum of four is cut at 2^42 into a low and a high part. One
-// reduction at the end is enough, and is left to callers of the sums. Nothing is refused: callers keep to 80 coefficients, each below q
-// and those of b below top. The contracts cite ring's linear; those of the steps also specs/Rows.antt.
+// are added at a time, in 64 bits, or four where no more are left. Where eighty products may pass 2^64, each sum of four is cut at 2^42
+// into a low and a high part. One reduction at the end is enough, and is left to callers of the sums. Nothing is refused: callers keep to
+// 80 coefficients, each below q and those of b below top. The contracts cite ring's linear; those of the steps also specs/Rows.antt.
 ghost use mathlib.Core.Path.{_≡_};
 ghost use Prim.Native.Nat.{ℕ, _+_, _*_, _%_, _/_, _<_, _≤_};
 ghost use lib.ListN.{length, getD, replicate};
@@ -98,7 +98,22 @@ fn add_rows(low: &mut [u64], words: &[u32], at: usize, m: usize, row: &[u64], i:
     }
 }
 
-// The same with both sums cut.
+// The same where at most four rows are left: the others hold nothing.
+fn add_last_rows(low: &mut [u64], words: &[u32], at: usize, m: usize, row: &[u64], i: usize)
+    requires { ⌜ Operands m (now words) at (now row) × (i < m) × (m ≤ i + 4) × (i + (m + 3) ≤ length (now low)) ⌝ }
+    requires { ⌜ ((k : ℕ) → getD (now low) k 0 + eightRows (λ s. s) m (part (now words) at) (part (now row) 7) i k < 18446744073709551616) ⌝ }
+    ensures { λ _. ⌜ Added (eightRows (λ s. s) m (part (now (words .entry)) at) (part (now (row .entry)) 7) i) (now (low .entry)) (now (low .exit)) ⌝ }
+{
+    let f = factors_from(words, at, m, i);
+    let end = m + 3;
+    let mut k = 0;
+    while k < end {
+        low[i + k] = low[i + k] + row_sum(f, row, k + 4);
+        k += 1;
+    }
+}
+
+// Eight rows with both sums cut.
 fn add_cut_rows(
     low: &mut [u64],
     high: &mut [u64],
@@ -134,7 +149,11 @@ fn all_rows(low: &mut [u64], words: &[u32], at: usize, m: usize, row: &[u64])
 {
     let mut i = 0;
     while i < m {
-        add_rows(low, words, at, m, row, i);
+        if i + 4 < m {
+            add_rows(low, words, at, m, row, i);
+        } else {
+            add_last_rows(low, words, at, m, row, i);
+        }
         i += PASS;
     }
 }
@@ -189,40 +208,58 @@ pub fn sums(words: &[u32], a: usize, b: usize, m: usize, q: u32, top: u32, low: 
 }
 
 // The product where eighty products fit a word.
-fn multiply_uncut(words: &[u32], m: usize, q: u32, top: u32, reciprocal: u64, product: &mut [u32])
-    requires { ⌜ (m ≤ 80) × (m + m ≤ length (now words)) × (m + m ≤ length (now product)) × (top ≤ q) × (0 < q) × (q < 2147483648) × (reciprocal ≡ 18446744073709551615 / q) × (q * top ≤ 230584300867682304) ⌝ }
-    requires { ⌜ InRing q m (part (now words) 0) × InRing top m (part (now words) m) ⌝ }
-    ensures { λ _. ⌜ now (product .exit) ≡ written 0 (tabulate (m + m) (λ k. linear m (part (now (words .entry)) 0) (part (now (words .entry)) m) k % q)) (now (product .entry)) ⌝ }
+fn multiply_uncut(
+    words: &mut [u32],
+    a: usize,
+    b: usize,
+    at: usize,
+    m: usize,
+    q: u32,
+    top: u32,
+    reciprocal: u64,
+)
+    requires { ⌜ (m ≤ 80) × (a + m ≤ length (now words)) × (b + m ≤ length (now words)) × (at + (m + m) ≤ length (now words)) × (top ≤ q) × (0 < q) × (q < 2147483648) × (reciprocal ≡ 18446744073709551615 / q) × (q * top ≤ 230584300867682304) ⌝ }
+    requires { ⌜ InRing q m (part (now words) a) × InRing top m (part (now words) b) ⌝ }
+    ensures { λ _. ⌜ now (words .exit) ≡ written at (tabulate (m + m) (λ k. linear m (part (now (words .entry)) a) (part (now (words .entry)) b) k % q)) (now (words .entry)) ⌝ }
 {
     let mut low = [0u64; 168];
-    sums(words, 0, m, m, q, top, &mut low);
-    reduce(product, &low, m + m, q, reciprocal);
+    sums(words, a, b, m, q, top, &mut low);
+    reduce(&mut words[at..], &low, m + m, q, reciprocal);
 }
 
 // The product in any case.
-fn multiply_cut(words: &[u32], m: usize, q: u32, reciprocal: u64, product: &mut [u32])
-    requires { ⌜ (m ≤ 80) × (m + m ≤ length (now words)) × (m + m ≤ length (now product)) × (0 < q) × (q < 2147483648) × (reciprocal ≡ 18446744073709551615 / q) ⌝ }
-    requires { ⌜ InRing q m (part (now words) 0) × InRing q m (part (now words) m) ⌝ }
-    ensures { λ _. ⌜ now (product .exit) ≡ written 0 (tabulate (m + m) (λ k. linear m (part (now (words .entry)) 0) (part (now (words .entry)) m) k % q)) (now (product .entry)) ⌝ }
+fn multiply_cut(words: &mut [u32], a: usize, b: usize, at: usize, m: usize, q: u32, reciprocal: u64)
+    requires { ⌜ (m ≤ 80) × (a + m ≤ length (now words)) × (b + m ≤ length (now words)) × (at + (m + m) ≤ length (now words)) × (0 < q) × (q < 2147483648) × (reciprocal ≡ 18446744073709551615 / q) ⌝ }
+    requires { ⌜ InRing q m (part (now words) a) × InRing q m (part (now words) b) ⌝ }
+    ensures { λ _. ⌜ now (words .exit) ≡ written at (tabulate (m + m) (λ k. linear m (part (now (words .entry)) a) (part (now (words .entry)) b) k % q)) (now (words .entry)) ⌝ }
 {
     let mut row = [0u64; 96];
     let mut low = [0u64; 168];
     let mut high = [0u64; 168];
-    pad(&mut row, words, m, m);
-    all_cut_rows(&mut low, &mut high, words, 0, m, &row);
-    reduce_cut(product, &low, &high, m + m, q, reciprocal);
+    pad(&mut row, words, b, m);
+    all_cut_rows(&mut low, &mut high, words, a, m, &row);
+    reduce_cut(&mut words[at..], &low, &high, m + m, q, reciprocal);
 }
 
-// The product of the two polynomials of m coefficients that stand one after the other in the words, modulo q; top is a bound of the
-// second one's coefficients.
-pub fn multiply(words: &[u32], m: usize, q: u32, top: u32, reciprocal: u64, product: &mut [u32])
-    requires { ⌜ (m ≤ 80) × (m + m ≤ length (now words)) × (m + m ≤ length (now product)) × (top ≤ q) × (0 < q) × (q < 2147483648) × (reciprocal ≡ 18446744073709551615 / q) ⌝ }
-    requires { ⌜ InRing q m (part (now words) 0) × InRing top m (part (now words) m) ⌝ }
-    ensures { λ _. ⌜ now (product .exit) ≡ written 0 (tabulate (m + m) (λ k. linear m (part (now (words .entry)) 0) (part (now (words .entry)) m) k % q)) (now (product .entry)) ⌝ }
+// The product modulo q of the polynomials of m coefficients that stand from a and from b on in the words, to the words from at on; top is
+// a bound of the second one's coefficients.
+pub fn multiply(
+    words: &mut [u32],
+    a: usize,
+    b: usize,
+    at: usize,
+    m: usize,
+    q: u32,
+    top: u32,
+    reciprocal: u64,
+)
+    requires { ⌜ (m ≤ 80) × (a + m ≤ length (now words)) × (b + m ≤ length (now words)) × (at + (m + m) ≤ length (now words)) × (top ≤ q) × (0 < q) × (q < 2147483648) × (reciprocal ≡ 18446744073709551615 / q) ⌝ }
+    requires { ⌜ InRing q m (part (now words) a) × InRing top m (part (now words) b) ⌝ }
+    ensures { λ _. ⌜ now (words .exit) ≡ written at (tabulate (m + m) (λ k. linear m (part (now (words .entry)) a) (part (now (words .entry)) b) k % q)) (now (words .entry)) ⌝ }
 {
     if (q as u64) * (top as u64) <= UNCUT {
-        multiply_uncut(words, m, q, top, reciprocal, product);
+        multiply_uncut(words, a, b, at, m, q, top, reciprocal);
     } else {
-        multiply_cut(words, m, q, reciprocal, product);
+        multiply_cut(words, a, b, at, m, q, reciprocal);
     }
 }

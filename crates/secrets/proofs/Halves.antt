@@ -4,38 +4,21 @@
 --   padded-..        what the tests of both halves say of the whole secret
 --   unpacked-halves  both halves unpacked into the first two parts
 -- Assumes nothing.
-use Prim.Native.Nat.{ℕ, _+_, _*_, _≤_, _<_, zero-le}
-use mathlib.Core.Path.{_≡_, refl, ap, _∙_}
-use mathlib.Core.Bool.{Bool, true, false, not, _&&_, and-false}
-use mathlib.Core.List.{List, [], _∷_}
+use Prim.Native.Nat.{ℕ, _+_, _*_, _≤_, zero-le}
+use mathlib.Core.Path.{_≡_, ap, _∙_}
+use mathlib.Core.Bool.{Bool, true, false}
+use mathlib.Core.List.{List}
 use native.Mathlib.Omega.{arith}
-use borrow.Author.Tests.{not-false}
-use lib.Dec.{lit<}
-use lib.ListN.{length, getD, take, drop, length-drop}
+use lib.ListN.{length, getD, drop, length-drop}
 use lib.Seq.{take-all}
-use Rattle.definitions.specs.Refusals.{refuse, firstRefusal}
 use Rattle.definitions.specs.Parameters.{Parameters, smallBits, smallLength, secretLength, workLength}
 use Rattle.definitions.specs.Octets.{unpacked, paddingClear}
 use Rattle.definitions.specs.Calls.{smallOf, secretX, secretY, secretPadded}
-use Rattle.definitions.proofs.Refusals.{firstRefusal-passed, firstRefusal-last}
 use Rattle.definitions.proofs.Parameters.{secretLength-halves}
 use Rattle.definitions.proofs.Packing.{length-unpacked}
-use Rattle.packing.specs.Fields.{paddingNumber}
-use Rattle.ring.specs.Work.{part, written}
+use Rattle.ring.specs.Work.{written}
 use Rattle.ring.proofs.Work.{length-written, getD-written, getD-written-before}
 use Rattle.secrets.specs.Secrets.{half, Unpacked}
-
-pub paddingNumber-passed : (used : ℕ) (octets : List ℕ) → paddingNumber used octets ≡ 0 → paddingClear used octets ≡ true
-unfolding paddingNumber
-paddingNumber-passed used octets e = not-false _ (firstRefusal-passed 7 _ [] (lit< tt) e .0)
-
-pub paddingNumber-refused : (used : ℕ) (octets : List ℕ) → (paddingNumber used octets ≡ 0 → ⊥) → paddingClear used octets ≡ false
-unfolding paddingNumber
-paddingNumber-refused used octets e = go (paddingClear used octets) e
-  where
-    go : (t : Bool) → (firstRefusal (refuse 7 (not t) ∷ []) ≡ 0 → ⊥) → t ≡ false
-    go true e = absurd (e (firstRefusal-last 7 false refl))
-    go false e = refl
 
 module _ (p : Parameters) (secret : List ℕ) (exact : length secret ≡ secretLength p) where
   pub half-second : half p (smallLength p) secret ≡ drop (smallLength p) secret

@@ -14,7 +14,6 @@ ghost use Rattle.ring.specs.Work.{part, written};
 ghost use Rattle.parameters.specs.Answers.{setFrom};
 ghost use Rattle.secrets.specs.Secrets.{half, Exact, Unpacked, Valued};
 use parameters::Parameters;
-use parameters::lengths;
 use parameters::refusals;
 
 // Whether the unused bits of one element of the secret are zero.
@@ -23,7 +22,7 @@ fn half_padded(p: Parameters, secret: &[u8], from: usize) -> bool
     ensures { λ r. ⌜ r ≡ paddingClear (p .n * smallBits (p .l)) (half (setFrom p) from (now (secret .entry))) ⌝ }
 {
     let end = from + lengths::small_length(p);
-    let used = (p.n as usize) * (lengths::bits(p.l) as usize);
+    let used = (p.n as usize) * (parameters::bits(p.l) as usize);
     if packing::padding(&secret[from..end], used) != 0 {
         return false;
     }
@@ -47,9 +46,9 @@ fn unpack_half(p: Parameters, secret: &[u8], from: usize, work: &mut [u32], at: 
     ensures { λ _. ⌜ now (work .exit) ≡ written at (unpacked (smallBits (p .l)) (p .n) (half (setFrom p) from (now (secret .entry)))) (now (work .entry)) ⌝ }
 {
     let end = from + lengths::small_length(p);
-    let b = lengths::bits(p.l);
+    let b = parameters::bits(p.l);
     let stop = at + (p.n as usize);
-    packing::unpack(&secret[from..end], b, &mut work[at..stop]);
+    unpacking::unpack(&secret[from..end], b, &mut work[at..stop]);
 }
 
 fn unpack(p: Parameters, secret: &[u8], work: &mut [u32])

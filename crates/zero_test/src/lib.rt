@@ -8,7 +8,6 @@ ghost use Rattle.parameters.specs.Answers.{setFrom};
 ghost use Rattle.secrets.specs.Secrets.{Exact};
 ghost use Rattle.zero_test.specs.Tested.{Tested};
 use parameters::Parameters;
-use parameters::lengths;
 use parameters::refusals;
 
 // The test, after the length test; the work words are left as they come.

@@ -5,8 +5,8 @@ use native.Mathlib.Omega.{arith}
 use Rattle.definitions.specs.Refusals.{firstRefusal}
 use Rattle.definitions.specs.Parameters.{setTests}
 use Rattle.parameters.specs.Answers.{setFrom}
-use Rattle.parameters.proofs.Bounds.{monomialCount-le}
-use Rattle.conversions.proofs.Exits.{from-tested, exit-set}
+use Rattle.lengths.proofs.Bounds.{monomialCount-le}
+use Rattle.definitions.proofs.Conversions.{from-tested, exit-set}
 use Rattle.conversions.proofs.Sets.{key-degree-most, mask-degree-most}
 use borrow.Author.Needs.{needs}
 use Rattle.conversions.proofs.ciphertext_from_octets.Statement.{statement}

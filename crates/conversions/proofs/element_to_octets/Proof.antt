@@ -1,6 +1,6 @@
 -- `conversions::element_to_octets` tests the set, and is then a conversion of one element.
 -- Assumes nothing.
-use Rattle.conversions.proofs.Exits.{to-tested, exit-set}
+use Rattle.definitions.proofs.Conversions.{to-tested, exit-set}
 use borrow.Author.Needs.{needs}
 use Rattle.conversions.proofs.element_to_octets.Statement.{statement}
 use Rattle.conversions.proofs.element_to_octets.Tie as tie

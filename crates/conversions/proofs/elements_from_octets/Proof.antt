@@ -6,7 +6,7 @@ use Rattle.definitions.specs.Parameters.{qlen}
 use Rattle.definitions.specs.Octets.{decoded}
 use Rattle.definitions.specs.Calls.{decodedElements}
 use Rattle.parameters.specs.Answers.{setFrom}
-use Rattle.conversions.proofs.Exits.{from-tested, exit-first, exit-second, exit-refused, exit-accepted}
+use Rattle.definitions.proofs.Conversions.{from-tested, exit-first, exit-second, exit-refused, exit-accepted}
 use Rattle.conversions.proofs.Sets.{octets-least, octets-most, elements-fit, elements-octets, elements-judged}
 use borrow.Author.Needs.{needs}
 use Rattle.conversions.proofs.elements_from_octets.Statement.{statement}

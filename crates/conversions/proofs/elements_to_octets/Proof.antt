@@ -5,7 +5,7 @@ use Rattle.definitions.specs.Parameters.{qlen}
 use Rattle.definitions.specs.Octets.{encoded}
 use Rattle.octets.specs.Reading.{fitNumber}
 use Rattle.parameters.specs.Answers.{setFrom}
-use Rattle.conversions.proofs.Exits.{to-tested, exit-first, exit-second, exit-refused, exit-accepted}
+use Rattle.definitions.proofs.Conversions.{to-tested, exit-first, exit-second, exit-refused, exit-accepted}
 use Rattle.conversions.proofs.Sets.{octets-least, octets-most, elements-fit, elements-octets}
 use borrow.Author.Needs.{needs}
 use Rattle.conversions.proofs.elements_to_octets.Statement.{statement}

@@ -8,7 +8,7 @@ use Rattle.definitions.proofs.Parameters.{accepted-set, modulus-positive}
 use Rattle.parameters.specs.Answers.{setFrom}
 use Rattle.definitions.proofs.Parameters.{mask-degree-most}
 use Rattle.mask_products.proofs.Sums.{count-six}
-use Rattle.encryption.proofs.Elements.{work-words, modulus-half}
+use Rattle.ciphertext_elements.proofs.Elements.{work-words, modulus-half}
 use Rattle.encryption.proofs.Mask.{mask-lent}
 use Rattle.encryption.proofs.draw_mask.Statement.{statement}
 use Rattle.encryption.proofs.draw_mask.Tie as tie

@@ -10,9 +10,8 @@ use Rattle.definitions.specs.Parameters.{degree, monomialCount, smallLength}
 use Rattle.definitions.specs.Calls.{encryptUsed}
 use Rattle.definitions.proofs.Parameters.{accepted-set}
 use Rattle.parameters.specs.Answers.{setFrom}
-use Rattle.encryption.proofs.Elements.{degree-most, count-most, small-most}
-use Rattle.encryption.proofs.Ciphertext.{ciphertext-same}
-use Rattle.encryption.proofs.Mask.{mask-within, drawn-ready, used-counted}
+use Rattle.ciphertext_elements.proofs.Elements.{degree-most, count-most}
+use Rattle.encryption.proofs.Mask.{mask-within, drawn-ready, used-counted, small-most, ciphertext-same}
 use Rattle.encryption.proofs.Returns.{encrypt-noise-exhausted, encrypt-accepted}
 use Rattle.encryption.proofs.encrypt_drawn.Statement.{statement}
 use Rattle.encryption.proofs.encrypt_drawn.Tie as tie
@@ -62,8 +61,8 @@ returns c =
     encrypt-noise-exhausted (setFrom (s .args .p)) (s .args .public .now) (s .args .message .now) (s .args .random .now) (s .args .ciphertext .now) (s .args .used .now) (s .args .work .now) (s .pre .0) (s .pre .1) (s .pre .2 .enough)
     (c .before .before .cleared .ensures) (omega (arith, counted (c .before .before .before .before .before), c .before .before .before .before .if1 .taken))
 
-encrypt-by-degrees-requires : tie.Need-encrypt-by-degrees-requires
-encrypt-by-degrees-requires c κs =
+write-elements-requires : tie.Need-write-elements-requires
+write-elements-requires c κs =
     let s = c .before .before .before .before .before .before .before .before .before .before .before in
     let room : s .args .start + monomialCount (degree (setFrom (s .args .p))) * smallLength (setFrom (s .args .p)) ≤ length (s .args .random .now) =
     rw (← c .before .before .before .before .monomial-count .ensures, ← c .before .before .before .small-length .ensures) (c .before .before .if1 .left) in
@@ -82,7 +81,7 @@ returns-2 : tie.Need-returns-2
 returns-2 c =
     let s = c .before .before .before .before .before .before .before .before .before .before .before .before .before .before .before .before .before .before .before .before in
     let p = setFrom (s .args .p) in
-    let all = c .before .before .before .before .before .before .before .before .encrypt-by-degrees in
+    let all = c .before .before .before .before .before .before .before .before .write-elements in
     encrypt-accepted (setFrom (s .args .p)) (s .args .public .now) (s .args .message .now) (s .args .random .now) (s .args .ciphertext .now) (s .args .used .now) (s .args .work .now) (s .pre .0) (s .pre .1) (s .pre .2 .enough)
     (omega (arith, counted (c .before .before .before .before .before .before .before .before .before .before .before .before), c .before .before .before .before .before .before .before .before .before .before .before .if1 .left))
     (c .before .before .cleared2 .ensures .0, c .before .before .cleared2 .ensures .1 ∙ ap (λ (n : ℕ). replicate n 0) (all .kept .1 .1 .1 .1 .1 .1 .0))
@@ -101,7 +100,7 @@ encrypt-drawn-spec =
     cleared-requires
     same-length
     returns
-    encrypt-by-degrees-requires
+    write-elements-requires
     cleared-requires-2
     same-length-2
     same-length-3

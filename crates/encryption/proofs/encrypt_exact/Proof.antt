@@ -8,7 +8,8 @@ use Rattle.definitions.specs.Octets.{paddingClear}
 use Rattle.definitions.proofs.Parameters.{accepted-set, modulus-positive, modulus-word, qlen-least, qlen-most}
 use Rattle.parameters.specs.Answers.{setFrom}
 use Rattle.octets.proofs.Judged.{judged-fits, judged-refused}
-use Rattle.encryption.proofs.Returns.{encrypt-padding, encrypt-coefficient, padding-clear, padding-refused}
+use Rattle.packing.proofs.Unused.{paddingNumber-passed, paddingNumber-refused}
+use Rattle.encryption.proofs.Returns.{encrypt-padding, encrypt-coefficient}
 use Rattle.encryption.proofs.encrypt_exact.Statement.{statement}
 use Rattle.encryption.proofs.encrypt_exact.Tie as tie
 
@@ -28,10 +29,10 @@ returns : tie.Need-returns
 returns c =
     let s = c .before .before .before .before .before .before .before .before .before .before .before .before in
     encrypt-padding (setFrom (s .args .p)) (s .args .public .now) (s .args .message .now) (s .args .random .now) (s .args .ciphertext .now) (s .args .used .now) (s .args .work .now) (s .pre) (c .before .before .cleared .ensures)
-    (padding-refused _ _ (λ e. c .before .before .before .before .if1 .taken (c .before .before .before .before .before .padding .ensures ∙ e)))
+    (paddingNumber-refused _ _ (λ e. c .before .before .before .before .if1 .taken (c .before .before .before .before .before .padding .ensures ∙ e)))
 
 padded : (c : tie.Else1) → paddingClear (c .before .before .before .before .before .before .before .before .args .p .mlen) (c .before .before .before .before .before .before .before .before .args .message .now) ≡ true
-padded c = padding-clear _ _ (sym (c .before .padding .ensures) ∙ c .if1 .left)
+padded c = paddingNumber-passed _ _ (sym (c .before .padding .ensures) ∙ c .if1 .left)
 
 octets-of-coefficient-requires : tie.Need-octets-of-coefficient-requires
 octets-of-coefficient-requires c κs = search needs

@@ -7,7 +7,7 @@ use borrow.Author.Needs.{needs}
 use lib.ListN.{replicate}
 use Rattle.parameters.specs.Answers.{setFrom}
 use Rattle.draws.proofs.Runs.{said-exhausted}
-use Rattle.encryption.specs.Elements.{MaskDrawn}
+use Rattle.encryption.specs.Steps.{MaskDrawn}
 use Rattle.encryption.proofs.Mask.{mask-within, mask-told}
 use Rattle.encryption.proofs.Returns.{encrypt-exhausted, encryptExit-work}
 use Rattle.encryption.proofs.encrypt_judged.Statement.{statement}

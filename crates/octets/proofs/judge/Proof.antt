@@ -1,4 +1,4 @@
--- `octets::judge` calls one loop, at the qlen that its tests found.
+-- `octets::judge` calls one loop, for the qlen that its tests found.
 -- Assumes nothing.
 use mathlib.Core.Path.{_≡_}
 use native.Mathlib.Omega.{arith}
@@ -22,21 +22,21 @@ returns-2 c =
     let e : c .before .before .before .before .args .qlen ≡ 2 = omega arith in
     rw e (c .judge-by2 .ensures)
 
-judge-by-requires-3 : tie.Need-judge-by-requires-3
-judge-by-requires-3 c κs = search needs
+judge-requires : tie.Need-judge-requires
+judge-requires c κs = search needs
 
 returns-3 : tie.Need-returns-3
 returns-3 c =
     let e : c .before .before .before .before .before .args .qlen ≡ 3 = omega arith in
-    rw e (c .judge-by3 .ensures)
+    rw e (c .judge .ensures)
 
-judge-by-requires-4 : tie.Need-judge-by-requires-4
-judge-by-requires-4 c κs = search needs
+judge-by-requires-3 : tie.Need-judge-by-requires-3
+judge-by-requires-3 c κs = search needs
 
 returns-4 : tie.Need-returns-4
 returns-4 c =
     let e : c .before .before .before .before .before .args .qlen ≡ 4 = omega arith in
-    rw e (c .judge-by4 .ensures)
+    rw e (c .judge-by3 .ensures)
 
 pub judge-spec : {M : Type 1} → statement M
 judge-spec =
@@ -46,7 +46,7 @@ judge-spec =
     returns
     judge-by-requires-2
     returns-2
-    judge-by-requires-3
+    judge-requires
     returns-3
-    judge-by-requires-4
+    judge-by-requires-3
     returns-4)

@@ -3,7 +3,7 @@
 use native.Mathlib.Omega.{arith}
 use borrow.Author.Needs.{needs}
 use Rattle.parameters.specs.Answers.{limitsAs}
-use Rattle.roomsheet_lines.proofs.Printing.{limitsText-le, appended-append}
+use Rattle.roomsheet_print.proofs.Printing.{limitsText-le, appended-append}
 use Rattle.roomsheet_lines.proofs.answer_line.Statement.{statement}
 use Rattle.roomsheet_lines.proofs.answer_line.Tie as tie
 

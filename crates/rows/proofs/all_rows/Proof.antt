@@ -3,6 +3,7 @@
 use native.Mathlib.Omega.{arith}
 use Prim.Native.Nat.{ℕ, _+_, _-_, _<_}
 use mathlib.Core.Path.{_≡_, ap, _∙_}
+use mathlib.Core.Logic.{⊎-elim}
 use lib.ListN.{length, length-replicate}
 use Rattle.ring.specs.Work.{part}
 use Rattle.rows.proofs.Rows.{Rows, rows-none, rows-more, rows-fit, rows-all}
@@ -21,11 +22,20 @@ loop-holds c =
     let long = ap length zeros ∙ length-replicate {A = ℕ} 168 0 in
     (omega arith, long, long, rows-none zeros)
 
+add-if1 : tie.Need-add-if1 Inv-loop μ-loop
+add-if1 c = omega (arith, c .before .before .before .before .before .pre .0 .0 .few)
+
 add-rows-requires : tie.Need-add-rows-requires Inv-loop μ-loop
 add-rows-requires c κs =
-    let start = c .before .before .before .before .before .before in
-    let l = c .before .before .loop in
-    ((start .pre .0 .0, omega arith, omega arith), (λ k. rows-fit (l .inv .3) k (start .pre .1 k)))
+    let start = c .before .before .before .before .before .before .before in
+    let l = c .before .before .before .loop in
+    ((start .pre .0 .0, omega arith, omega (arith, start .pre .0 .0 .few)), (λ k. rows-fit (l .inv .3) k (start .pre .1 k)))
+
+add-last-rows-requires : tie.Need-add-last-rows-requires Inv-loop μ-loop
+add-last-rows-requires c κs =
+    let start = c .before .before .before .before .before .before .before in
+    let l = c .before .before .before .loop in
+    ((start .pre .0 .0, omega arith, omega arith, omega (arith, start .pre .0 .0 .few)), (λ k. rows-fit (l .inv .3) k (start .pre .1 k)))
 
 add-i : tie.Need-add-i Inv-loop μ-loop
 add-i c = omega arith
@@ -35,9 +45,11 @@ loop-less c = omega arith
 
 loop-again : tie.Need-loop-again Inv-loop μ-loop
 loop-again c =
-    let call = c .before .before .add-rows in
-    let l = c .before .before .before .before .before .loop in
-    (omega arith, l .inv .1, omega (arith, call .kept), rows-more (l .inv .3) (call .ensures))
+    let l = c .before .before .loop in
+    ⊎-elim
+    (λ w. (omega arith, l .inv .1, omega (arith, w .2 .kept, ap length (w .5)), rw (w .5) (rows-more (l .inv .3) (w .2 .ensures))))
+    (λ w. (omega arith, l .inv .1, omega (arith, w .2 .kept, ap length (w .5)), rw (w .5) (rows-more (l .inv .3) (w .2 .ensures))))
+    (c .if1 .came)
 
 same-length : tie.Need-same-length Inv-loop μ-loop
 same-length c = omega arith
@@ -52,7 +64,9 @@ all-rows-spec =
     Inv-loop
     μ-loop
     loop-holds
+    add-if1
     add-rows-requires
+    add-last-rows-requires
     add-i
     loop-less
     loop-again

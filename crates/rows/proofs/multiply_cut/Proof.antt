@@ -3,9 +3,10 @@
 use borrow.Author.Needs.{needs}
 use native.Mathlib.Omega.{arith}
 use Prim.Native.Nat.{_+_}
+use native.Mathlib.Nat.{le-of-lt}
 use mathlib.Core.Path.{refl, _∙_}
 use Rattle.ring.specs.Work.{part}
-use Rattle.rows.proofs.Rows.{linear-row, row-operands, reduced-cong}
+use Rattle.rows.proofs.Rows.{linear-row, row-operands, reduced-lent}
 use Rattle.rows.proofs.multiply_cut.Statement.{statement}
 use Rattle.rows.proofs.multiply_cut.Tie as tie
 
@@ -13,7 +14,9 @@ slice-aggregate-pad : tie.Need-slice-aggregate-pad
 slice-aggregate-pad c = search needs
 
 pad-requires : tie.Need-pad-requires
-pad-requires c κs = search needs
+pad-requires c κs =
+    let pre = c .before .before .before .pre in
+    (pre .0 .0, pre .0 .2, refl)
 
 slice-aggregate-all-cut-rows : tie.Need-slice-aggregate-all-cut-rows
 slice-aggregate-all-cut-rows c = search needs
@@ -26,9 +29,21 @@ slice-aggregate-all-cut-rows-3 c = search needs
 
 all-cut-rows-requires : tie.Need-all-cut-rows-requires
 all-cut-rows-requires c κs =
-    let start = c .before .before .before .before .before .before .before .before in
-    let pad = c .before .before .before .before .pad in
-    (row-operands (start .args .m) _ (pad .last .0) (pad .ensures) (omega arith) (omega arith) (omega (arith, pad .kept)) (omega arith) (omega arith) (start .pre .1 .0) (start .pre .1 .1), refl, refl)
+    let start = c .before .before .before .before .before .before .before .before .before in
+    let pad = c .before .before .before .before .before .pad in
+    (row-operands (start .args .m) _ (pad .last .0) (pad .ensures) (start .pre .0 .0) (start .pre .0 .1) (omega (arith, pad .kept)) (le-of-lt (start .pre .0 .5)) (le-of-lt (start .pre .0 .5)) (start .pre .1 .0) (start .pre .1 .1), refl, refl)
+
+mul-reduce-cut : tie.Need-mul-reduce-cut
+mul-reduce-cut c = search needs
+
+sub-reduce-cut : tie.Need-sub-reduce-cut
+sub-reduce-cut c = search needs
+
+part-reduce-cut-start : tie.Need-part-reduce-cut-start
+part-reduce-cut-start c = search needs
+
+part-reduce-cut-end : tie.Need-part-reduce-cut-end
+part-reduce-cut-end c = search needs
 
 slice-aggregate-reduce-cut : tie.Need-slice-aggregate-reduce-cut
 slice-aggregate-reduce-cut c = search needs
@@ -41,20 +56,20 @@ add-reduce-cut c = search needs
 
 reduce-cut-requires : tie.Need-reduce-cut-requires
 reduce-cut-requires c κs =
-    let start = c .before .before .before .before .before .before .before .before .before .before .before .before .before .before in
+    let start = c .before .before .before .before .before .before .before .before .before .before .before .before .before .before .before in
     let rows = c .before .before .before .before .before .all-cut-rows in
-    ((omega arith, omega (arith, rows .kept), omega (arith, rows .kept), omega arith, omega arith, start .pre .0 .5), ((λ k l. rows .ensures k .low-small), (λ k l. rows .ensures k .high-small)))
+    ((omega arith, omega (arith, rows .kept), omega (arith, rows .kept), start .pre .0 .4, start .pre .0 .5, start .pre .0 .6), ((λ k l. rows .ensures k .low-small), (λ k l. rows .ensures k .high-small)))
 
 same-length : tie.Need-same-length
 same-length c = search needs
 
 returns : tie.Need-returns
 returns c =
-    let a = c .before .before .before .before .before .before .before .before .before .before .before .before .before .before .before .before .before .args in
+    let start = c .before .before .before .before .before .before .before .before .before .before .before .before .before .before .before .before .before .before in
+    let a = start .args in
     let rows = c .before .before .before .before .before .before .before .before .all-cut-rows in
-    let pad = c .before .before .before .before .before .before .before .before .before .before .before .before .before .pad in
-    c .before .before .reduce-cut .ensures
-    ∙ reduced-cong (a .m + a .m) (a .q) (a .product .now) (λ k. rows .ensures k .whole ∙ linear-row (a .m) _ (pad .last .0) (pad .ensures) (part (a .words .now) 0) k)
+    let pad = c .before .before .before .before .before .before .before .before .before .before .before .before .before .before .pad in
+    reduced-lent (a .at) (a .m + a .m) (a .q) (a .words .now) (start .pre .0 .3) (λ k. rows .ensures k .whole ∙ linear-row (a .m) _ (pad .last .0) (pad .ensures) (part (a .words .now) (a .a)) k) (c .before .before .reduce-cut .ensures)
 
 pub multiply-cut-spec : {M : Type 1} → statement M
 multiply-cut-spec =
@@ -66,6 +81,10 @@ multiply-cut-spec =
     slice-aggregate-all-cut-rows-2
     slice-aggregate-all-cut-rows-3
     all-cut-rows-requires
+    mul-reduce-cut
+    sub-reduce-cut
+    part-reduce-cut-start
+    part-reduce-cut-end
     slice-aggregate-reduce-cut
     slice-aggregate-reduce-cut-2
     add-reduce-cut

@@ -10,8 +10,8 @@ use Rattle.definitions.specs.Parameters.{smallBits}
 use Rattle.parameters.specs.Answers.{setFrom}
 use Rattle.parameters.proofs.Bounds.{smallBits-within}
 use Rattle.packing.specs.Fields.{paddingNumber}
+use Rattle.packing.proofs.Unused.{paddingNumber-passed, paddingNumber-refused}
 use Rattle.secrets.specs.Secrets.{half}
-use Rattle.secrets.proofs.Halves.{paddingNumber-passed, paddingNumber-refused}
 use Rattle.secrets.proofs.half_padded.Statement.{statement}
 use Rattle.secrets.proofs.half_padded.Tie as tie
 

@@ -1,0 +1,79 @@
+-- `add_noise` fills part 6 with the noise element, whose multiples by ℓ are below q, and adds them.
+-- Assumes nothing.
+use native.Mathlib.Omega.{arith}
+use borrow.Author.Needs.{needs}
+use lib.ListN.{drop}
+use Rattle.definitions.specs.Draws.{noiseDrawn}
+use Rattle.definitions.proofs.Parameters.{accepted-set}
+use Rattle.parameters.specs.Answers.{setFrom}
+use Rattle.ciphertext_elements.proofs.Elements.{work-words, length-noise, borrowed-filled, modulus-half, noise-scaled, filled-requires, summed-scaled}
+use Rattle.ciphertext_elements.proofs.add_noise.Statement.{statement}
+use Rattle.ciphertext_elements.proofs.add_noise.Tie as tie
+
+cast-n : tie.Need-cast-n
+cast-n c = search needs
+
+mul-from : tie.Need-mul-from
+mul-from c = search needs
+
+add-end : tie.Need-add-end
+add-end c = search needs
+
+mul-draw-noise : tie.Need-mul-draw-noise
+mul-draw-noise c = search needs
+
+sub-draw-noise : tie.Need-sub-draw-noise
+sub-draw-noise c = search needs
+
+part-draw-noise-start : tie.Need-part-draw-noise-start
+part-draw-noise-start c = search needs
+
+part-draw-noise-end : tie.Need-part-draw-noise-end
+part-draw-noise-end c =
+    let s = c .before .before .before in
+    omega (arith, work-words (setFrom (s .args .p)) (s .args .work .now) (s .pre .1))
+
+draw-noise-requires : tie.Need-draw-noise-requires
+draw-noise-requires c κs = search needs
+
+mul-add-scaled : tie.Need-mul-add-scaled
+mul-add-scaled c = search needs
+
+add-scaled-requires : tie.Need-add-scaled-requires
+add-scaled-requires c κs =
+    let s = c .before .before .before .before .before .before .before .before in
+    let p = setFrom (s .args .p) in
+    let set = accepted-set p (s .pre .0) in
+    let noise = noiseDrawn p (drop (s .args .at) (s .args .random .now)) in
+    filled-requires (p .n) (p .q) (p .l) (s .args .work .now) _ noise (work-words p (s .args .work .now) (s .pre .1)) (length-noise p _)
+    (borrowed-filled (p .n) (s .args .work .now) (c .before .before .before .draw-noise .last .1 .1 .1 .0) noise (c .before .before .before .draw-noise .ensures) (length-noise p _))
+    (modulus-half p set) (s .pre .3) (noise-scaled p set _)
+
+same-length : tie.Need-same-length
+same-length c = search needs
+
+returns : tie.Need-returns
+returns c =
+    let s = c .before .before .before .before .before .before .before .before .before .before .before in
+    let p = setFrom (s .args .p) in
+    let noise = noiseDrawn p (drop (s .args .at) (s .args .random .now)) in
+    summed-scaled (p .n) (p .q) (p .l) (s .args .work .now) _ noise (work-words p (s .args .work .now) (s .pre .1)) (length-noise p _)
+    (borrowed-filled (p .n) (s .args .work .now) (c .before .before .before .before .before .before .draw-noise .last .1 .1 .1 .0) noise (c .before .before .before .before .before .before .draw-noise .ensures) (length-noise p _))
+    (c .before .before .add-scaled .ensures)
+
+pub add-noise-spec : {M : Type 1} → statement M
+add-noise-spec =
+    tie.close
+    (tie.spec
+    cast-n
+    mul-from
+    add-end
+    mul-draw-noise
+    sub-draw-noise
+    part-draw-noise-start
+    part-draw-noise-end
+    draw-noise-requires
+    mul-add-scaled
+    add-scaled-requires
+    same-length
+    returns)

@@ -1,0 +1,106 @@
+-- `encode_element` encodes the words of part 7 over the octets of the m-th element.
+-- Assumes nothing.
+use Prim.Native.Nat.{ℕ, _*_, _≤_}
+use native.Mathlib.Nat.{mul-le-mul}
+use native.Mathlib.Omega.{arith}
+use mathlib.Core.Path.{_≡_, sym, _∙_, ap}
+use mathlib.Core.List.{List}
+use borrow.Author.Needs.{needs}
+use lib.ListN.{length}
+use Rattle.definitions.specs.Sequences.{tabulate}
+use Rattle.definitions.specs.Octets.{encoded}
+use Rattle.definitions.proofs.Sums.{length-tabulate}
+use Rattle.definitions.proofs.Octets.{length-encoded}
+use Rattle.ring.specs.Work.{part, written}
+use Rattle.values.proofs.Parts.{putMid-written}
+use Rattle.mask_products.proofs.Sums.{length-borrowed}
+use Rattle.ciphertext_elements.proofs.Ciphertext.{borrowed-element}
+use Rattle.ciphertext_elements.proofs.encode_element.Statement.{statement}
+use Rattle.ciphertext_elements.proofs.encode_element.Tie as tie
+
+mul-at : tie.Need-mul-at
+mul-at c = search needs
+
+add-stop : tie.Need-add-stop
+add-stop c = search needs
+
+mul-from : tie.Need-mul-from
+mul-from c =
+    let few : c .before .before .args .m ≤ 15 = omega arith in
+    let most : c .before .before .args .n ≤ 4096 = omega arith in
+    omega (arith, mul-le-mul few most)
+
+mul-from-2 : tie.Need-mul-from-2
+mul-from-2 c = search needs
+
+mul-end : tie.Need-mul-end
+mul-end c = search needs
+
+add-end : tie.Need-add-end
+add-end c = search needs
+
+mul-encode : tie.Need-mul-encode
+mul-encode c = search needs
+
+sub-encode : tie.Need-sub-encode
+sub-encode c = search needs
+
+part-encode-start : tie.Need-part-encode-start
+part-encode-start c = search needs
+
+part-encode-end : tie.Need-part-encode-end
+part-encode-end c = search needs
+
+sub-encode-2 : tie.Need-sub-encode-2
+sub-encode-2 c = search needs
+
+part-encode-start-2 : tie.Need-part-encode-start-2
+part-encode-start-2 c = search needs
+
+part-encode-end-2 : tie.Need-part-encode-end-2
+part-encode-end-2 c = search needs
+
+encode-requires : tie.Need-encode-requires
+encode-requires c κs =
+    let s = c .before .before .before .before in
+    let a = s .args in (
+      omega arith,
+      omega arith,
+      length-borrowed (a .m * a .n * a .width) (a .n * a .width) (a .ciphertext .now) (s .pre .5)
+          ∙ ap (λ (x : ℕ). x * a .width) (sym (length-borrowed (7 * a .n) (a .n) (a .work .now) (omega arith))),
+    )
+
+same-length : tie.Need-same-length
+same-length c = search needs
+
+returns : tie.Need-returns
+returns c =
+    let s = c .before .before .before .before .before .before .before in
+    let a = s .args in
+    let given : c .before .before .encode .last .1 .1 .0 ≡ encoded (a .width) (tabulate (a .n) (part (a .work .now) (7 * a .n))) =
+    c .before .before .encode .ensures ∙ ap (encoded (a .width)) (borrowed-element (7 * a .n) (a .n) (a .work .now) (omega arith)) in
+    let sized : length (c .before .before .encode .last .1 .1 .0) ≡ a .n * a .width =
+    ap length given ∙ length-encoded (a .width) (tabulate (a .n) (part (a .work .now) (7 * a .n))) ∙ ap (λ (x : ℕ). x * a .width) (length-tabulate (a .n) (part (a .work .now) (7 * a .n))) in
+    putMid-written (a .m * a .n * a .width) (a .n * a .width) (a .ciphertext .now) _ sized
+    ∙ ap (λ (l : List ℕ). written (a .m * a .n * a .width) l (a .ciphertext .now)) given
+
+pub encode-element-spec : {M : Type 1} → statement M
+encode-element-spec =
+    tie.close
+    (tie.spec
+    mul-at
+    add-stop
+    mul-from
+    mul-from-2
+    mul-end
+    add-end
+    mul-encode
+    sub-encode
+    part-encode-start
+    part-encode-end
+    sub-encode-2
+    part-encode-start-2
+    part-encode-end-2
+    encode-requires
+    same-length
+    returns)

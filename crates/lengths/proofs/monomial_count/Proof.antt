@@ -1,0 +1,34 @@
+-- `monomial_count` meets its contract: with d at most 4 no step wraps.
+-- Assumes nothing.
+use borrow.Author.Needs.{needs}
+use native.Mathlib.Omega.{arith}
+use mathlib.Core.Path.{refl}
+use Prim.Native.Nat.{_+_, _≤_}
+use native.Mathlib.Nat.{mul-le-mul}
+use Rattle.definitions.specs.Parameters.{monomialCount}
+use Rattle.lengths.proofs.Bounds.{monomialCount-le}
+use Rattle.lengths.proofs.monomial_count.Statement.{statement}
+use Rattle.lengths.proofs.monomial_count.Tie as tie
+
+add-result : tie.Need-add-result
+add-result c = search needs
+
+add-result-2 : tie.Need-add-result-2
+add-result-2 c = search needs
+
+mul-result : tie.Need-mul-result
+mul-result c =
+    let five : c .args .d + 1 ≤ 5 = omega arith in
+    let six : c .args .d + 2 ≤ 6 = omega arith in
+    omega (arith, mul-le-mul five six)
+
+cast-result : tie.Need-cast-result
+unfolding monomialCount
+cast-result c = omega (arith, monomialCount-le (c .args .d) (c .pre))
+
+returns : tie.Need-returns
+unfolding monomialCount
+returns c = refl
+
+pub monomial-count-spec : {M : Type 1} → statement M
+monomial-count-spec = tie.close (tie.spec add-result add-result-2 mul-result cast-result returns)

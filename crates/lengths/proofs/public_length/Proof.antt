@@ -1,0 +1,23 @@
+-- `public_length` meets its contract: it is as many elements as there are monomials of degree dX.
+-- Assumes nothing.
+use borrow.Author.Needs.{needs}
+use native.Mathlib.Omega.{arith}
+use mathlib.Core.Path.{ap, _∙_}
+use Rattle.definitions.specs.Parameters.{elementsLength, publicLength}
+use Rattle.parameters.specs.Answers.{setFrom}
+use Rattle.lengths.proofs.Bounds.{monomialCount-le}
+use Rattle.lengths.proofs.public_length.Statement.{statement}
+use Rattle.lengths.proofs.public_length.Tie as tie
+
+monomial-count-requires : tie.Need-monomial-count-requires
+monomial-count-requires c κs = search needs
+
+elements-length-requires : tie.Need-elements-length-requires
+elements-length-requires c κs = omega (arith, monomialCount-le (c .before .args .p .dx) (omega arith))
+
+returns : tie.Need-returns
+unfolding publicLength
+returns c = c .elements-length .ensures ∙ ap (elementsLength (setFrom (c .before .before .args .p))) (c .before .monomial-count .ensures)
+
+pub public-length-spec : {M : Type 1} → statement M
+public-length-spec = tie.close (tie.spec monomial-count-requires elements-length-requires returns)

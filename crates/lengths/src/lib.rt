@@ -1,0 +1,77 @@
+// The lengths that a set fixes (01, "Ring, monomials, octets"): octets of each thing, words of work.
+// Nothing is refused: a caller tests the set first. With both degrees at most 2 no length wraps, whatever the other four numbers are. The
+// contracts cite the definitions' bitLength, qlen, monomialCount and lengths.
+use parameters::Parameters;
+ghost use mathlib.Core.Path.{_≡_};
+ghost use Prim.Native.Nat.{_≤_};
+ghost use Rattle.definitions.specs.Parameters.{bitLength, qlen, monomialCount, smallLength, secretLength, elementsLength, publicLength, ciphertextLength, messageLength, workLength};
+ghost use Rattle.parameters.specs.Answers.{setFrom};
+
+pub fn bit_length(q: u32) -> u32
+    ensures { λ r. ⌜ r ≡ bitLength q ⌝ }
+{
+    32 - u32::leading_zeros(q)
+}
+
+// qlen: the octets of a coefficient.
+pub fn octets_of_coefficient(q: u32) -> usize
+    ensures { λ r. ⌜ r ≡ qlen q ⌝ }
+{
+    ((bit_length(q) + 7) / 8) as usize
+}
+
+pub fn monomial_count(d: u32) -> usize
+    requires { ⌜ d ≤ 4 ⌝ }
+    ensures { λ r. ⌜ r ≡ monomialCount d ⌝ }
+{
+    ((d + 1) * (d + 2) / 2) as usize
+}
+
+pub fn small_length(p: Parameters) -> usize
+    ensures { λ r. ⌜ r ≡ smallLength (setFrom p) ⌝ }
+{
+    ((p.n as usize) * (parameters::bits(p.l) as usize) + 7) / 8
+}
+
+pub fn secret_length(p: Parameters) -> usize
+    ensures { λ r. ⌜ r ≡ secretLength (setFrom p) ⌝ }
+{
+    let one = small_length(p);
+    one + one
+}
+
+// So many elements of n coefficients each.
+pub fn elements_length(p: Parameters, elements: usize) -> usize
+    requires { ⌜ elements ≤ 4096 ⌝ }
+    ensures { λ r. ⌜ r ≡ elementsLength (setFrom p) elements ⌝ }
+{
+    elements * (p.n as usize) * octets_of_coefficient(p.q)
+}
+
+pub fn public_length(p: Parameters) -> usize
+    requires { ⌜ p .dx ≤ 2 ⌝ }
+    ensures { λ r. ⌜ r ≡ publicLength (setFrom p) ⌝ }
+{
+    elements_length(p, monomial_count(p.dx))
+}
+
+pub fn ciphertext_length(p: Parameters) -> usize
+    requires { ⌜ p .dx ≤ 2 ⌝ }
+    requires { ⌜ p .dr ≤ 2 ⌝ }
+    ensures { λ r. ⌜ r ≡ ciphertextLength (setFrom p) ⌝ }
+{
+    elements_length(p, monomial_count(p.dx + p.dr))
+}
+
+pub fn message_length(p: Parameters) -> usize
+    ensures { λ r. ⌜ r ≡ messageLength (setFrom p) ⌝ }
+{
+    ((p.mlen as usize) + 7) / 8
+}
+
+// Words of 32 bits.
+pub fn work_length(p: Parameters) -> usize
+    ensures { λ r. ⌜ r ≡ workLength (setFrom p) ⌝ }
+{
+    8 * (p.n as usize)
+}

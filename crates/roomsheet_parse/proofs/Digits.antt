@@ -1,0 +1,99 @@
+-- Reading digits from the left: each is tested, and the number so far, as it is met.
+--
+--   digitsRead           whether digits, after those that wrote x, are digits and never pass 4,294,967,295
+--   digitsFit-read       that is the test of the whole field, since a number only grows
+--   Reading              what holds at a place of the field;  reading-start, -next, -end, -stop: where it begins, one digit on, at its end,
+--                        and at an octet that does not go on
+-- Assumes nothing.
+use Prim.Native.Nat.{ℕ, zero, suc, _+_, _-_, _*_, _≤_, _<_}
+use native.Mathlib.Nat.{lt-of-lt-of-le, add-zero}
+use native.Mathlib.Decide.{decLt}
+use native.Mathlib.Omega.{arith}
+use mathlib.Core.Path.{_≡_, refl, sym, ap, _∙_}
+use mathlib.Core.Bool.{Bool, true, false, _&&_, and-true, and-false, and-assoc}
+use mathlib.Core.List.{[], _∷_}
+use lib.Dec.{leb}
+use lib.ListN.{length, getD}
+use borrow.Author.Tests.{le-leb, lt-leb}
+use Rattle.definitions.specs.Sequences.{every}
+use Rattle.definitions.specs.Roomsheet.{Text, isDigit, decimalFrom, decimal}
+use Rattle.roomsheet_parse.specs.Numbers.{digitsFit, fieldAt, readAs, digitsAt}
+use Rattle.roomsheet_parse.specs.declared.Number.{Number}
+
+abbrev pub digitsRead : ℕ → Text → Bool
+digitsRead x [] = true
+digitsRead x (c ∷ field) = isDigit c && (leb (10 * x + (c - 48)) 4294967295 && digitsRead (10 * x + (c - 48)) field)
+
+pub every-cons : (n : ℕ) (f : ℕ → Bool) → every (suc n) f ≡ (f 0 && every n (λ i. f (suc i)))
+unfolding every
+every-cons zero f = sym (and-true (f 0))
+every-cons (suc n) f = rw (every-cons n f) (and-assoc (f 0) (every n (λ i. f (suc i))) (f (suc n)))
+
+decimalFrom-grows : (x : ℕ) (field : Text) → x ≤ decimalFrom x field
+unfolding decimalFrom
+decimalFrom-grows x [] = omega arith
+decimalFrom-grows x (c ∷ field) = omega (arith, decimalFrom-grows (10 * x + (c - 48)) field)
+
+fitsFrom : ℕ → Text → Bool
+fitsFrom x field = every (length field) (λ i. isDigit (getD field i 0)) && leb (decimalFrom x field) 4294967295
+
+fits-cons : (x c : ℕ) (field : Text) → fitsFrom x (c ∷ field) ≡ (isDigit c && fitsFrom (10 * x + (c - 48)) field)
+unfolding fitsFrom decimalFrom
+fits-cons x c field =
+    ap (λ (t : Bool). t && leb (decimalFrom (10 * x + (c - 48)) field) 4294967295) (every-cons (length field) (λ i. isDigit (getD (c ∷ field) i 0)))
+    ∙ and-assoc (isDigit c) (every (length field) (λ i. isDigit (getD field i 0))) (leb (decimalFrom (10 * x + (c - 48)) field) 4294967295)
+
+-- a number past the largest stays past it
+fits-past : (x : ℕ) (field : Text) → 4294967295 < x → fitsFrom x field ≡ false
+unfolding fitsFrom
+fits-past x field h = rw (lt-leb (decimalFrom x field) 4294967295 (lt-of-lt-of-le h (decimalFrom-grows x field))) (and-false (every (length field) (λ i. isDigit (getD field i 0))))
+
+fits-read : (x : ℕ) (field : Text) → x ≤ 4294967295 → fitsFrom x field ≡ digitsRead x field
+fits-read x [] h = unfold fitsFrom every decimalFrom in le-leb x 4294967295 h
+fits-read x (c ∷ field) h =
+    let y = 10 * x + (c - 48) in
+    fits-cons x c field
+    ∙ elim (decLt 4294967295 y) [
+      | yes past ↦ rw (fits-past y field past, lt-leb y 4294967295 past)
+      | no within ↦ let small : y ≤ 4294967295 = omega arith in rw (fits-read y field small, le-leb y 4294967295 small)
+    ]
+
+pub digitsFit-read : (field : Text) → digitsFit field ≡ digitsRead 0 field
+unfolding digitsFit decimal fitsFrom
+digitsFit-read field = fits-read 0 field (omega arith)
+
+-- ---- the loop
+
+pub record Reading (line : Text) (from value i : ℕ) : Type 0 where
+  pub within : i ≤ length line
+  pub value-le : value ≤ 4294967295
+  pub fits : digitsFit (fieldAt line from) ≡ digitsRead value (fieldAt line i)
+  pub number : decimal (fieldAt line from) ≡ decimalFrom value (fieldAt line i)
+  pub place : from + length (fieldAt line from) ≡ i + length (fieldAt line i)
+
+pub reading-start : (line : Text) (from : ℕ) → from ≤ length line → Reading line from 0 from
+unfolding decimal
+reading-start line from h =
+    record { within = h; value-le = omega arith; fits = digitsFit-read (fieldAt line from); number = refl; place = refl }
+
+module _ (line : Text) (from value i : ℕ) (r : Reading line from value i) where
+  -- the field ends here
+  pub reading-end : fieldAt line i ≡ [] → digitsAt line from ≡ Number.Value value i
+  unfolding digitsAt readAs decimalFrom
+  reading-end e = rw (r .fits, r .number, r .place, e, add-zero i)
+
+  -- the octet here is no digit, or takes the number past the largest
+  pub reading-stop : (c : ℕ) (rest : Text) → fieldAt line i ≡ c ∷ rest → digitsRead value (c ∷ rest) ≡ false → digitsAt line from ≡ Number.Malformed
+  unfolding digitsAt readAs
+  reading-stop c rest e f = rw (r .fits, e, f)
+
+  pub reading-next : (c : ℕ) → fieldAt line i ≡ c ∷ fieldAt line (i + 1) → i < length line → isDigit c ≡ true → 10 * value + (c - 48) ≤ 4294967295 → Reading line from (10 * value + (c - 48)) (i + 1)
+  unfolding decimalFrom
+  reading-next c e h digit small =
+      record {
+        within = omega arith;
+        value-le = small;
+        fits = r .fits ∙ rw (e, digit, le-leb (10 * value + (c - 48)) 4294967295 small);
+        number = r .number ∙ rw e;
+        place = r .place ∙ rw e (omega arith);
+      }

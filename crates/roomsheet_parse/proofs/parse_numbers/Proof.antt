@@ -1,0 +1,80 @@
+-- `parse_numbers` meets its contract: after i fields, the line is well formed where the rest is count - i numbers, and the numbers stored
+-- with those of the rest are the line's.
+-- Assumes nothing.
+use Prim.Native.Nat.{_-_}
+use mathlib.Core.Path.{sym, _∙_}
+use native.Mathlib.Omega.{arith}
+use lib.ListN.{length-set}
+use borrow.Author.Needs.{needs}
+use Rattle.roomsheet_parse.proofs.Fields.{Progress, progress-start, long-read, progress-over, progress-spoiled, progress-end, progress-next}
+use Rattle.roomsheet_parse.proofs.parse_numbers.Statement.{statement}
+use Rattle.roomsheet_parse.proofs.parse_numbers.Tie as tie
+
+abbrev Inv-loop : tie.InvT-loop
+Inv-loop line count numbers₀ at₀ i₀ numbers at i = Progress line count numbers₀ numbers at i
+
+abbrev μ-loop : tie.MeasureT-loop
+μ-loop line count numbers₀ at₀ i₀ numbers at i = count - i
+
+returns : tie.Need-returns Inv-loop μ-loop
+returns c = long-read _ _ _ (c .if1 .taken)
+
+loop-holds : tie.Need-loop-holds Inv-loop μ-loop
+loop-holds c = progress-start _ _ _ (c .if1 .left) (c .before .before .before .pre)
+
+parse-number-requires : tie.Need-parse-number-requires Inv-loop μ-loop
+parse-number-requires c κs = c .before .loop .inv .within
+
+enum-known-value : tie.Need-enum-known-value Inv-loop μ-loop
+enum-known-value c = search needs
+
+enum-told : tie.Need-enum-told Inv-loop μ-loop
+enum-told c = search needs
+
+same-length : tie.Need-same-length Inv-loop μ-loop
+same-length c = c .before .before .before .before .loop .inv .kept
+
+returns-2 : tie.Need-returns-2 Inv-loop μ-loop
+returns-2 c =
+    progress-spoiled _ _ _ _ _ _ (c .before .before .before .before .loop .inv) (c .before .before .before .loop-test .taken)
+    (sym (c .enum-told .given .1) ∙ c .before .before .parse-number .ensures)
+
+mul-numbers : tie.Need-mul-numbers Inv-loop μ-loop
+mul-numbers c = omega arith
+
+slice-write-numbers : tie.Need-slice-write-numbers Inv-loop μ-loop
+slice-write-numbers c = omega arith
+
+add-i : tie.Need-add-i Inv-loop μ-loop
+add-i c = omega arith
+
+same-length-2 : tie.Need-same-length-2 Inv-loop μ-loop
+same-length-2 c = simp length-set (c .before .before .before .before .before .before .loop .inv .kept)
+
+returns-3 : tie.Need-returns-3 Inv-loop μ-loop
+returns-3 c =
+    progress-end _ _ _ _ _ _ (c .before .before .before .before .before .before .loop .inv) (c .before .before .before .before .before .loop-test .taken) _ _
+    (sym (c .before .before .value .given .1) ∙ c .before .before .before .before .parse-number .ensures) (c .if2 .taken)
+
+loop-less : tie.Need-loop-less Inv-loop μ-loop
+loop-less c = omega arith
+
+loop-again : tie.Need-loop-again Inv-loop μ-loop
+loop-again c =
+    progress-next _ _ _ _ _ _ (c .before .before .before .before .before .before .loop .inv) (c .before .before .before .before .before .loop-test .taken) _ _
+    (sym (c .before .before .value .given .1) ∙ c .before .before .before .before .parse-number .ensures) (c .if2 .left)
+
+add-at : tie.Need-add-at Inv-loop μ-loop
+add-at c = omega (arith, loop-again c .within)
+
+same-length-3 : tie.Need-same-length-3 Inv-loop μ-loop
+same-length-3 c = c .before .loop .inv .kept
+
+returns-4 : tie.Need-returns-4 Inv-loop μ-loop
+returns-4 c = progress-over _ _ _ _ _ _ (c .before .loop .inv) (c .loop-test .left)
+
+pub parse-numbers-spec : {M : Type 1} → statement M
+parse-numbers-spec =
+    tie.close
+    (tie.spec Inv-loop μ-loop returns loop-holds parse-number-requires enum-known-value enum-told same-length returns-2 mul-numbers
+    slice-write-numbers add-i same-length-2 returns-3 add-at loop-less loop-again same-length-3 returns-4)

@@ -1,0 +1,3 @@
+-- What the contracts cite besides the definitions.
+pub mod Parts
+pub mod Numbers

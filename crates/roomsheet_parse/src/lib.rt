@@ -1,0 +1,118 @@
+// Reading roomsheet's text (01, "roomsheet"): where a line ends, and its numbers, without sign or needless leading zero and at most
+// 4,294,967,295. A line that is no such list is told malformed. The contracts cite the definitions' wellFormed and numbersOf.
+ghost use mathlib.Core.Path.{_≡_};
+ghost use Prim.Native.Nat.{_+_, _≤_};
+ghost use lib.ListN.{length, drop};
+ghost use Rattle.roomsheet_parse.specs.Parts.{upTo};
+ghost use Rattle.roomsheet_parse.specs.Numbers.{digitsAt, numberAt, NumbersRead};
+
+// What reading a number finds: the number and the place past it, or that it is malformed.
+pub enum Number {
+    Value { value: u32, next: usize },
+    Malformed,
+}
+
+const SPACE: u8 = 32;
+
+const NEWLINE: u8 = 10;
+
+const ZERO: u8 = 48;
+
+const NINE: u8 = 57;
+
+const NUMBER_MOST: u64 = 4294967295;
+
+pub const LINE_MOST: usize = 80;
+
+// The place of the first newline at or after from; the text's length where there is none.
+pub fn find_newline(text: &[u8], from: usize) -> usize
+    requires { ⌜ from ≤ length (now text) ⌝ }
+    ensures { λ r. ⌜ r ≡ from + length (upTo 10 (drop from (now (text .entry)))) ⌝ }
+{
+    let mut i = from;
+    while i < text.len() {
+        if text[i] == NEWLINE {
+            return i;
+        }
+        i += 1;
+    }
+    i
+}
+
+// The digits from a place to the next space or the end, and the number that they write.
+fn read_digits(line: &[u8], from: usize) -> Number
+    requires { ⌜ from ≤ length (now line) ⌝ }
+    ensures { λ r. ⌜ r ≡ digitsAt (now (line .entry)) from ⌝ }
+{
+    let mut value = 0u64;
+    let mut i = from;
+    while i < line.len() {
+        let c = line[i];
+        if c == SPACE {
+            return Number::Value {
+                value: value as u32,
+                next: i,
+            };
+        }
+        if c < ZERO {
+            return Number::Malformed;
+        }
+        if NINE < c {
+            return Number::Malformed;
+        }
+        value = 10 * value + ((c - ZERO) as u64);
+        if NUMBER_MOST < value {
+            return Number::Malformed;
+        }
+        i += 1;
+    }
+    Number::Value {
+        value: value as u32,
+        next: i,
+    }
+}
+
+// The number at a place: digits, at least one, and the first of several above zero.
+pub fn parse_number(line: &[u8], from: usize) -> Number
+    requires { ⌜ from ≤ length (now line) ⌝ }
+    ensures { λ r. ⌜ r ≡ numberAt (now (line .entry)) from ⌝ }
+{
+    let read = read_digits(line, from);
+    let Number::Value { value: _, next } = read else {
+        return Number::Malformed;
+    };
+    if next == from {
+        return Number::Malformed;
+    }
+    if next == from + 1 {
+        return read;
+    }
+    if line[from] <= ZERO {
+        return Number::Malformed;
+    }
+    read
+}
+
+// A line of so many numbers with one space between, in at most 80 octets: its numbers go to the front of `numbers`.
+pub fn parse_numbers(line: &[u8], count: usize, numbers: &mut [u32]) -> bool
+    requires { ⌜ count ≤ length (now numbers) ⌝ }
+    ensures { λ r. ⌜ NumbersRead count (now (line .entry)) r (now (numbers .exit)) ⌝ }
+{
+    if LINE_MOST < line.len() {
+        return false;
+    }
+    let mut at = 0;
+    let mut i = 0;
+    while i < count {
+        let Number::Value { value, next } = parse_number(line, at) else {
+            return false;
+        };
+        numbers[i] = value;
+        i += 1;
+        if next == line.len() {
+            return i == count;
+        }
+        at = next + 1;
+    }
+    false
+}

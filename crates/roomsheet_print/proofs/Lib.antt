@@ -1,0 +1,2 @@
+-- Laws of printed text.
+pub mod Printing
