@@ -1,6 +1,6 @@
 /* Products by Karatsuba over rows in plain C, the library's own way: both factors are padded with zeros to
-   leaf * 2^levels coefficients and halved down to leaves of at most 80.  A leaf is multiplied by rows, eight in
-   a pass, in 64 bits, and reduced once (Barrett). */
+   leaf * 2^levels coefficients and halved, where they stand, down to leaves of at most 80.  A leaf is multiplied
+   by rows, eight in a pass and four in the last where no more are left, in 64 bits, and reduced once (Barrett). */
 
 #include <string.h>
 
@@ -77,6 +77,16 @@ static void add_rows(uint64_t *restrict low, const uint32_t *factors, const uint
         low[k] += four(f, row + k + 4) + four(f + 4, row + k);
 }
 
+static void add_last_rows(uint64_t *restrict low, const uint32_t *factors, const uint64_t *restrict row,
+                          uint32_t length)
+{
+    uint32_t f[PASS / 2], k;
+
+    memcpy(f, factors, sizeof f);
+    for (k = 0; k < length + PASS / 2 - 1; k++)
+        low[k] += four(f, row + k + 4);
+}
+
 static void add_cut_rows(uint64_t *restrict low, uint64_t *restrict high, const uint32_t *factors,
                          const uint64_t *restrict row, uint32_t length)
 {
@@ -98,8 +108,10 @@ static void multiply_uncut(const uint32_t *factors, const uint64_t *row, uint32_
     uint64_t low[2 * LEAF + PASS] = {0};
     uint32_t k;
 
-    for (k = 0; k < length; k += PASS)
+    for (k = 0; k + PASS / 2 < length; k += PASS)
         add_rows(low + k, factors + k, row, length);
+    if (k < length)
+        add_last_rows(low + k, factors + k, row, length);
     for (k = 0; k < 2 * length; k++)
         product[k] = reduce(low[k], m);
 }
@@ -118,14 +130,15 @@ static void multiply_cut(const uint32_t *factors, const uint64_t *row, uint32_t 
 }
 
 /* The row has seven zeros on either side, the factors have zeros behind them. */
-static void multiply_leaf(const uint32_t *words, uint32_t length, uint32_t limit, struct modulus m, uint32_t *product)
+static void multiply_leaf(const uint32_t *a, const uint32_t *b, uint32_t length, uint32_t limit, struct modulus m,
+                          uint32_t *product)
 {
     uint32_t factors[LEAF + PASS] = {0}, k;
     uint64_t row[LEAF + 2 * PASS] = {0};
 
-    memcpy(factors, words, length * sizeof *factors);
+    memcpy(factors, a, length * sizeof *factors);
     for (k = 0; k < length; k++)
-        row[PASS - 1 + k] = words[length + k];
+        row[PASS - 1 + k] = b[k];
     if ((uint64_t)m.q * limit <= UNCUT)
         multiply_uncut(factors, row, length, m, product);
     else
@@ -148,41 +161,39 @@ static void subtract(uint32_t *restrict to, const uint32_t *restrict from, uint3
         to[k] = sub_mod(to[k], from[k], q);
 }
 
-/* The two factors stand one after the other; behind them go the halves of the level below, and behind
-   the product the product of the sums.  The second factor's coefficients are below the limit. */
-static void multiply(uint32_t *words, uint32_t level, uint32_t length, uint32_t limit, struct modulus m,
-                     uint32_t *product)
+/* The sums of the halves stand where the product will come, until they are multiplied: their product goes to the
+   free words, and what the products need goes behind it.  The second factor's coefficients are below the limit. */
+static void multiply(const uint32_t *a, const uint32_t *b, uint32_t level, uint32_t length, uint32_t limit,
+                     struct modulus m, uint32_t *product, uint32_t *free_words)
 {
     const uint32_t half = length / 2;
-    uint32_t *below = words + 2 * length, *middle = product + 2 * length;
+    uint32_t *rest = free_words + length;
 
     if (level == 0) {
-        multiply_leaf(words, length, limit, m, product);
+        multiply_leaf(a, b, length, limit, m, product);
         return;
     }
-    memcpy(below, words, half * sizeof *words);
-    memcpy(below + half, words + length, half * sizeof *words);
-    multiply(below, level - 1, half, limit, m, product);
-    memcpy(below, words + half, half * sizeof *words);
-    memcpy(below + half, words + length + half, half * sizeof *words);
-    multiply(below, level - 1, half, limit, m, product + length);
-    add(below, words, half, m.q);
-    add(below + half, words + length, half, m.q);
-    multiply(below, level - 1, half, limit < m.q - limit ? 2 * limit : m.q, m, middle);
-    subtract(middle, product, length, m.q);
-    subtract(middle, product + length, length, m.q);
-    add(product + half, middle, length, m.q);
+    memcpy(product, a, half * sizeof *a);
+    add(product, a + half, half, m.q);
+    memcpy(product + half, b, half * sizeof *b);
+    add(product + half, b + half, half, m.q);
+    multiply(product, product + half, level - 1, half, limit < m.q - limit ? 2 * limit : m.q, m, free_words, rest);
+    multiply(a, b, level - 1, half, limit, m, product, rest);
+    multiply(a + half, b + half, level - 1, half, limit, m, product + length, rest);
+    subtract(free_words, product, length, m.q);
+    subtract(free_words, product + length, length, m.q);
+    add(product + half, free_words, length, m.q);
 }
 
 static void mul_add(int sum, int a, int b)
 {
-    static uint32_t words[4 * MAX_N], product[4 * MAX_N];
+    static uint32_t words[2 * MAX_N], product[2 * MAX_N], free_words[2 * MAX_N];
 
     memcpy(words, slots[a], n * sizeof *words);
     memset(words + n, 0, (padded - n) * sizeof *words);
     memcpy(words + padded, slots[b], n * sizeof *words);
     memset(words + padded + n, 0, (padded - n) * sizeof *words);
-    multiply(words, levels, padded, limits[b], modulus, product);
+    multiply(words, words + padded, levels, padded, limits[b], modulus, product, free_words);
     add(sums[sum], product, n, modulus.q);
     add(sums[sum], product + n, n, modulus.q);
 }
