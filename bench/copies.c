@@ -1,5 +1,7 @@
 /* Addition and the conversions beside the same in plain C (as every peer of calls.c has it) and beside memcpy, of
    the octets and of the words.  Results are compared before anything is timed; entries take turns.
+   One ciphertext is taken again and again, so that it may lie in the first-level cache; "adds", "decodes" and "encodes"
+   take a run of 64 ciphertexts, one after the other, each in its own buffers.
    Usage: copies [TIMES.csv] */
 
 #include <stdio.h>
@@ -20,10 +22,15 @@ static const struct set sets[] = {
 };
 #define SETS (sizeof sets / sizeof sets[0])
 
+/* The ciphertexts of a run, and the words of as many; every set here has degrees 1. */
+#define RUN 64
+#define RUN_WORDS ((size_t)RUN * 6 * MAX_N)
+
 static const struct set *set;
-static uint8_t octets[MAX_OCTETS], other[MAX_OCTETS], sums[MAX_OCTETS], out_octets[MAX_OCTETS];
-static uint32_t words[MAX_ELEMENTS * MAX_N], out_words[MAX_ELEMENTS * MAX_N];
-static size_t octets_length, words_length;
+static uint8_t octets[4 * RUN_WORDS], other[4 * RUN_WORDS], sums[4 * RUN_WORDS], out_octets[4 * RUN_WORDS];
+static uint32_t words[RUN_WORDS], out_words[RUN_WORDS];
+/* The lengths of one ciphertext or small element, and how many there are. */
+static size_t octets_length, words_length, count;
 
 static void fail(const char *what)
 {
@@ -37,72 +44,83 @@ static void must(uint32_t answer)
         fail("the library refuses");
 }
 
-static void library_add(void)
+static void library_add(size_t i)
 {
-    must(giophantus_add(SET, octets, octets_length, other, octets_length, out_octets, octets_length));
+    must(giophantus_add(SET, octets + i * octets_length, octets_length, other + i * octets_length, octets_length,
+                        out_octets + i * octets_length, octets_length));
 }
 
-static void library_decode(void)
+static void library_decode(size_t i)
 {
-    must(giophantus_ciphertext_from_octets(SET, octets, octets_length, out_words, words_length));
+    must(giophantus_ciphertext_from_octets(SET, octets + i * octets_length, octets_length, out_words + i * words_length, words_length));
 }
 
-static void library_encode(void)
+static void library_encode(size_t i)
 {
-    must(giophantus_ciphertext_to_octets(SET, words, words_length, out_octets, octets_length));
+    must(giophantus_ciphertext_to_octets(SET, words + i * words_length, words_length, out_octets + i * octets_length, octets_length));
 }
 
-static void library_unpack(void)
+static void library_unpack(size_t i)
 {
-    must(giophantus_small_from_octets(SET, octets, octets_length, out_words, words_length));
+    must(giophantus_small_from_octets(SET, octets + i * octets_length, octets_length, out_words + i * words_length, words_length));
 }
 
-static void library_pack(void)
+static void library_pack(size_t i)
 {
-    must(giophantus_small_to_octets(SET, words, words_length, out_octets, octets_length));
+    must(giophantus_small_to_octets(SET, words + i * words_length, words_length, out_octets + i * octets_length, octets_length));
 }
 
-static void plain_add(void)
+static void plain_add(size_t i)
 {
-    peer_add(set, octets, other, out_octets);
+    peer_add(set, octets + i * octets_length, other + i * octets_length, out_octets + i * octets_length);
 }
 
-static void plain_decode(void)
+static void plain_decode(size_t i)
 {
-    peer_decode(set, octets, out_words);
+    peer_decode(set, octets + i * octets_length, out_words + i * words_length);
 }
 
-static void plain_encode(void)
+static void plain_encode(size_t i)
 {
-    peer_encode(set, words, out_octets);
+    peer_encode(set, words + i * words_length, out_octets + i * octets_length);
 }
 
-static void plain_unpack(void)
+static void plain_unpack(size_t i)
 {
-    peer_unpack(set, octets, out_words);
+    peer_unpack(set, octets + i * octets_length, out_words + i * words_length);
 }
 
-static void plain_pack(void)
+static void plain_pack(size_t i)
 {
-    peer_pack(set, words, out_octets);
+    peer_pack(set, words + i * words_length, out_octets + i * octets_length);
 }
 
 static const struct call {
     const char *name;
-    void (*library)(void);
-    void (*plain)(void);
+    void (*library)(size_t i);
+    void (*plain)(size_t i);
     /* The octets that have to come out; NULL where it is the words. */
     const uint8_t *wanted;
-    /* Whether it is about a small element and not about a ciphertext. */
+    /* Whether it is about a small element and not about ciphertexts; how many there are, and from which n on it is timed. */
     int small;
+    size_t count, least_n;
 } calls[] = {
-    {"add", library_add, plain_add, sums, 0},
-    {"decode", library_decode, plain_decode, NULL, 0},
-    {"encode", library_encode, plain_encode, octets, 0},
-    {"unpack", library_unpack, plain_unpack, NULL, 1},
-    {"pack", library_pack, plain_pack, octets, 1},
+    {"add", library_add, plain_add, sums, 0, 1, 0},
+    {"adds", library_add, plain_add, sums, 0, RUN, 1201},
+    {"decode", library_decode, plain_decode, NULL, 0, 1, 0},
+    {"decodes", library_decode, plain_decode, NULL, 0, RUN, 1201},
+    {"encode", library_encode, plain_encode, octets, 0, 1, 0},
+    {"encodes", library_encode, plain_encode, octets, 0, RUN, 1201},
+    {"unpack", library_unpack, plain_unpack, NULL, 1, 1, 0},
+    {"pack", library_pack, plain_pack, octets, 1, 1, 0},
 };
-#define ROWS (sizeof calls / sizeof calls[0] * SETS)
+#define CALLS (sizeof calls / sizeof calls[0])
+
+/* The rows: a call with a set. */
+static struct {
+    const struct call *call;
+    const struct set *set;
+} pairs[CALLS * SETS];
 
 static const struct call *call;
 static void *(*volatile copy)(void *, const void *, size_t) = memcpy;
@@ -110,14 +128,22 @@ static void *(*volatile copy)(void *, const void *, size_t) = memcpy;
 static const char *const names[] = {"library", "plain C", "memcpy of octets", "memcpy of words"};
 #define ENTRIES (sizeof names / sizeof names[0])
 
-static void run(size_t entry)
+static void run_one(size_t entry, size_t i)
 {
     switch (entry) {
-    case 0: call->library(); break;
-    case 1: call->plain(); break;
-    case 2: copy(out_octets, octets, octets_length); break;
-    default: copy(out_words, words, 4 * words_length);
+    case 0: call->library(i); break;
+    case 1: call->plain(i); break;
+    case 2: copy(out_octets + i * octets_length, octets + i * octets_length, octets_length); break;
+    default: copy(out_words + i * words_length, words + i * words_length, 4 * words_length);
     }
+}
+
+static void run(size_t entry)
+{
+    size_t i;
+
+    for (i = 0; i < count; i++)
+        run_one(entry, i);
 }
 
 /* Words below the limit, and their octets by plain C. */
@@ -143,7 +169,7 @@ static void prepare_ciphertext(void)
 
     words_length = elements(set->dx + set->dr) * set->n;
     octets_length = words_length * length;
-    for (i = 0; i < words_length; i++) {
+    for (i = 0; i < count * words_length; i++) {
         uint32_t second = (uint32_t)(number() % set->q);
 
         words[i] = (uint32_t)(number() % set->q);
@@ -160,18 +186,18 @@ static void check_equal(size_t entry)
     memset(out_octets, 0xAA, sizeof out_octets);
     memset(out_words, 0xAA, sizeof out_words);
     run(entry);
-    if (call->wanted != NULL ? memcmp(out_octets, call->wanted, octets_length) != 0
-                             : memcmp(out_words, words, 4 * words_length) != 0) {
+    if (call->wanted != NULL ? memcmp(out_octets, call->wanted, count * octets_length) != 0
+                             : memcmp(out_words, words, 4 * count * words_length) != 0) {
         fprintf(stderr, "copies: %s: ", call->name);
         fail(names[entry]);
     }
 }
 
-/* The rows are the calls, and for each call the sets. */
 static void enter(size_t row)
 {
-    call = &calls[row / SETS];
-    set = &sets[row % SETS];
+    call = pairs[row].call;
+    set = pairs[row].set;
+    count = call->count;
     if (call->small)
         prepare_small();
     else
@@ -186,15 +212,20 @@ static void leave(void)
 
 int main(int argc, char **argv)
 {
-    static struct row rows[ROWS];
-    const struct table table = {ROWS, ENTRIES, rows, enter, leave, run};
-    size_t k, i;
+    static struct row rows[CALLS * SETS];
+    struct table table = {0, ENTRIES, rows, enter, leave, run};
+    size_t k, i, row = 0;
 
-    for (k = 0; k < ROWS; k++) {
-        rows[k] = (struct row){.call = calls[k / SETS].name, .set = &sets[k % SETS]};
-        for (i = 0; i < ENTRIES; i++)
-            rows[k].turns[i].name = names[i];
-    }
+    for (k = 0; k < CALLS * SETS; k++)
+        if (sets[k % SETS].n >= calls[k / SETS].least_n) {
+            pairs[row].call = &calls[k / SETS];
+            pairs[row].set = &sets[k % SETS];
+            rows[row] = (struct row){.call = calls[k / SETS].name, .set = &sets[k % SETS]};
+            for (i = 0; i < ENTRIES; i++)
+                rows[row].turns[i].name = names[i];
+            row++;
+        }
+    table.count = row;
     time_table(&table, argc > 1 ? argv[1] : NULL);
     return 0;
 }

@@ -63,10 +63,10 @@ pub fn add(p: Parameters, a: &[u8], b: &[u8], sum: &mut [u8]) -> u32
         return refusals::LENGTH;
     }
     let qlen = lengths::octets_of_coefficient(p.q);
-    if octets::judge(a, qlen, p.q) != 0 {
+    if judging::judge(a, qlen, p.q) != 0 {
         return refusals::COEFFICIENT;
     }
-    if octets::judge(b, qlen, p.q) != 0 {
+    if judging::judge(b, qlen, p.q) != 0 {
         return refusals::COEFFICIENT;
     }
     add_octets(a, b, length / qlen, qlen, p.q, sum);

@@ -17,7 +17,7 @@ use Rattle.definitions.specs.Parameters.{Parameters, qlen, elementsLength, setT
 use Rattle.definitions.specs.Octets.{decoded}
 use Rattle.definitions.specs.Calls.{elementsFit, decodedElements}
 use Rattle.definitions.proofs.Parameters.{Accepted, accepted-set, qlen-least, qlen-most, modulus-positive, modulus-word}
-use Rattle.octets.specs.Reading.{fitNumber}
+use Rattle.judging.specs.Reading.{fitNumber}
 
 degree-most : {d : ℕ} → (d ≡ 1) ⊎ (d ≡ 2) → d ≤ 2
 degree-most h = ⊎-elim (λ e. omega arith) (λ e. omega arith) h

@@ -23,7 +23,7 @@ fn elements_from_octets(p: Parameters, elements: usize, octets: &[u8], words: &m
         return refusals::LENGTH;
     }
     let qlen = lengths::octets_of_coefficient(p.q);
-    let refused = octets::judge(octets, qlen, p.q);
+    let refused = judging::judge(octets, qlen, p.q);
     if refused != 0 {
         return refused;
     }
@@ -42,7 +42,7 @@ fn elements_to_octets(p: Parameters, elements: usize, words: &[u32], octets: &mu
     if octets.len() != lengths::elements_length(p, elements) {
         return refusals::LENGTH;
     }
-    let refused = octets::judge_words(words, p.q);
+    let refused = judging::judge_words(words, p.q);
     if refused != 0 {
         return refused;
     }

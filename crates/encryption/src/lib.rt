@@ -86,7 +86,7 @@ fn encrypt_exact(
     if packing::padding(message, p.mlen as usize) != 0 {
         return ring::cleared(work, refusals::PADDING);
     }
-    if octets::judge(public, lengths::octets_of_coefficient(p.q), p.q) != 0 {
+    if judging::judge(public, lengths::octets_of_coefficient(p.q), p.q) != 0 {
         return ring::cleared(work, refusals::COEFFICIENT);
     }
     encrypt_judged(p, public, message, random, ciphertext, work, used)

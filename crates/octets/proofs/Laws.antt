@@ -1,31 +1,25 @@
 -- Why reading and writing octet by octet gives a number and its octets: each octet has 256 times the weight of the one before it.
 --
 --   numberOf-snoc, numberOf-take   the number of octets with one more behind them; of a part of a list, as a sum over its places
---   octetsOf-snoc, stored-..       the octets of a number with one more; a list with some of them stored from a place on
---   place-..                       where the octets of a coefficient lie
---   encoded-snoc, encode-..        the octets of one word more;  a turn and the end of a loop that stores them
---   fitNumber-..                   the answer for one coefficient more
---   reading-..                     what reading a coefficient tells, and that its number is the answer for that one
+--   numberOf-four                  the number of the first of four octets; octets-weight: 256^len as a shift makes it
+--   pair-..                        the number of two words: its weight as a shift makes it, and that 64 bits hold it
+--   octetsOf-snoc, octetsOf-add    the octets of a number with one more, or with some more; octetsOf-low: what lies above does not show
+--   stored-..                      a list with some octets of a number stored from a place on; eight of them as four and four
+--   place-.., wide-room            where the octets of a coefficient lie, and that some more follow
+--   encoded-snoc, encode-..        the octets of one word more;  a turn, of one word or of two, and the end of a loop that stores them
 -- Assumes nothing.
-use Prim.Native.Nat.{ℕ, zero, suc, _+_, _*_, _/_, _%_, _^_, _≤_, _<_}
+use Prim.Native.Nat.{ℕ, zero, suc, _+_, _-_, _*_, _/_, _%_, _^_, _≤_, _<_}
 use mathlib.Core.Path.{_≡_, refl, sym, ap, _∙_}
-use mathlib.Core.Bool.{Bool, true, false, _&&_, not}
+use mathlib.Core.Bool.{not}
 use mathlib.Core.List.{List, [], _∷_, _++_, append-assoc, append-nil}
-use native.Mathlib.Nat.{add-zero, add-suc, mul-le-mul-right, suc-mul, pow-suc, pow-succ', div-one, div-div-eq-div-mul, le-step, lt-suc-self, le-of-eq}
+use native.Mathlib.Nat.{add-zero, zero-add, add-suc, suc-add, mul-assoc, mul-suc, mul-le-mul, mul-le-mul-left, mul-le-mul-right, suc-mul, pow-suc, pow-succ', pow-le-pow-right, div-one, div-div-eq-div-mul, add-mul-mod-self-left, add-mul-div-left, div-eq-of-lt, mod-add-div, mod-lt, mod-eq-of-lt, le-of-eq}
 use native.Mathlib.Numerals.{add-one}
-use native.Mathlib.Decide.{decLt}
 use native.Mathlib.Omega.{arith}
-use lib.Dec.{ltb}
-use lib.ListN.{length, getD, take, drop, set, length-append, length-drop, take-append-drop, List·getD-append}
-use lib.Seq.{take-all, take-suc, drop-cons, getD-drop, length-take-le, set-at, take-at, getD-append-seam}
-use borrow.Author.Tests.{lt-ltb, le-ltb}
-use Rattle.definitions.specs.Sequences.{sum, every, tabulate, joined}
-use Rattle.definitions.specs.Refusals.{refuse, firstRefusal}
-use Rattle.definitions.specs.Octets.{numberOf, octetsOf, coefficientAt, decoded, encoded, coefficientsFit}
-use Rattle.definitions.proofs.Filling.{tabulate-snoc}
-use Rattle.definitions.proofs.Octets.{length-octetsOf, encoded-append}
-use Rattle.octets.specs.Reading.{picked, readingOf, readingNumber, fitNumber}
-use Rattle.octets.specs.declared.Coefficient.the-variants.{Below, TooLarge}
+use lib.ListN.{length, getD, take, drop, set, length-append, length-drop, take-append-drop}
+use lib.Seq.{take-all, take-take, take-suc, drop-cons, getD-drop, length-take-le, set-at, take-at, drop-append-add, drop-drop}
+use Rattle.definitions.specs.Sequences.{sum, joined}
+use Rattle.definitions.specs.Octets.{numberOf, octetsOf, encoded}
+use Rattle.definitions.proofs.Octets.{AllBelow, below-take, below-drop, length-octetsOf, numberOf-below, encoded-append}
 
 -- ---- reading
 
@@ -56,6 +50,76 @@ pub numberOf-take : (k len at : ℕ) (l : List ℕ) → len ≡ suc k → at + l
     → numberOf (take len (drop at l)) ≡ getD l at 0 + sum k (λ j. 256 ^ suc j * getD l (at + suc j) 0)
 numberOf-take k len at l e h = rw e (numberOf-take-sum k at l (omega arith))
 
+numberOf-append : (xs ys : List ℕ) → numberOf (xs ++ ys) ≡ numberOf xs + 256 ^ length xs * numberOf ys
+unfolding numberOf
+numberOf-append [] ys = omega arith
+numberOf-append (x ∷ xs) ys =
+    let e : 256 ^ length (x ∷ xs) ≡ 256 ^ length xs * 256 = pow-suc 256 (length xs) in
+    rw (e, numberOf-append xs ys) (omega arith)
+
+-- the first octets of a list, kept of its number
+numberOf-front : (len : ℕ) (xs : List ℕ) → AllBelow 256 xs → len ≤ length xs → numberOf (take len xs) ≡ numberOf xs % 256 ^ len
+numberOf-front len xs below h =
+    let short : length (take len xs) ≡ len = length-take-le len xs h in
+    let small : numberOf (take len xs) < 256 ^ len = rw short at (numberOf-below (take len xs) (below-take 256 len xs below)) in
+    let whole : numberOf xs ≡ numberOf (take len xs) + 256 ^ len * numberOf (drop len xs)
+    = ap numberOf (sym (take-append-drop len xs)) ∙ rw short at (numberOf-append (take len xs) (drop len xs)) in
+    rw (whole, add-mul-mod-self-left (numberOf (take len xs)) (256 ^ len) (numberOf (drop len xs))) (sym (mod-eq-of-lt small))
+
+-- and of four octets that are read at once
+pub numberOf-four : (len at : ℕ) (l : List ℕ) → AllBelow 256 l → len ≤ 4 → at + 4 ≤ length l
+    → numberOf (take len (drop at l)) ≡ numberOf (take 4 (drop at l)) % 256 ^ len
+numberOf-four len at l below few h =
+    let room : 4 ≤ length (drop at l) = omega (arith, length-drop at l) in
+    let full : length (take 4 (drop at l)) ≡ 4 = length-take-le 4 (drop at l) room in
+    let same : take len (take 4 (drop at l)) ≡ take len (drop at l) = take-take len 4 (drop at l) few in
+    rw (← same) (numberOf-front len (take 4 (drop at l)) (below-take 256 4 (drop at l) (below-drop 256 at l below)) (omega arith))
+
+pub weight-pos : (len : ℕ) → 0 < 256 ^ len
+weight-pos zero = omega arith
+weight-pos (suc len) =
+    let e : 256 ^ suc len ≡ 256 ^ len * 256 = pow-suc 256 len in
+    omega (arith, weight-pos len)
+
+-- the weight behind some octets, as a shift makes it
+pub octets-weight : (len : ℕ) → len ≤ 3 → 1 * 2 ^ (8 * len) % 4294967296 ≡ 256 ^ len
+octets-weight zero h = refl
+octets-weight (suc zero) h = refl
+octets-weight (suc (suc zero)) h = refl
+octets-weight (suc (suc (suc zero))) h = refl
+octets-weight (suc (suc (suc (suc n)))) h = let z : ⊥ = omega arith in absurd z
+
+pub pair-weight : (len : ℕ) → len ≤ 4 → 1 * 2 ^ (8 * len) % 18446744073709551616 ≡ 256 ^ len
+pair-weight zero h = refl
+pair-weight (suc zero) h = refl
+pair-weight (suc (suc zero)) h = refl
+pair-weight (suc (suc (suc zero))) h = refl
+pair-weight (suc (suc (suc (suc zero)))) h = refl
+pair-weight (suc (suc (suc (suc (suc n))))) h = let z : ⊥ = omega arith in absurd z
+
+-- the weight of the second of two words, and their number, in 64 bits
+module _ (len : ℕ) (few : len ≤ 4) where
+  weight-most : 256 ^ len ≤ 4294967296
+  weight-most = pow-le-pow-right {n = 256} (omega arith) few
+
+  pub pair-weight-pos : 0 < 1 * 2 ^ (8 * len) % 18446744073709551616
+  pair-weight-pos = rw (pair-weight len few) (weight-pos len)
+
+  module _ (x y : ℕ) (word : y < 4294967296) where
+    pair-below : x % 256 ^ len + 256 ^ len * y < 18446744073709551616
+    pair-below =
+        let most : 256 ^ len * suc y ≤ 4294967296 * 4294967296 = mul-le-mul weight-most word in
+        omega (arith, mod-lt x (weight-pos len), mul-suc (256 ^ len) y, most)
+
+    pub pair-fits : x % (1 * 2 ^ (8 * len) % 18446744073709551616) + 1 * 2 ^ (8 * len) % 18446744073709551616 * y < 18446744073709551616
+    pair-fits = rw (pair-weight len few) pair-below
+
+    pub pair-second-fits : 1 * 2 ^ (8 * len) % 18446744073709551616 * y < 18446744073709551616
+    pair-second-fits = rw (pair-weight len few) (omega (arith, pair-below))
+
+pub octets-weight-pos : (len : ℕ) → len ≤ 3 → 0 < 1 * 2 ^ (8 * len) % 4294967296
+octets-weight-pos len h = rw (octets-weight len h) (weight-pos len)
+
 -- ---- writing
 
 pub octetsOf-snoc : (k x : ℕ) → octetsOf (suc k) x ≡ octetsOf k x ++ (x / 256 ^ k % 256 ∷ [])
@@ -64,6 +128,36 @@ octetsOf-snoc zero x = rw (div-one x)
 octetsOf-snoc (suc k) x =
     let e : x / 256 ^ suc k ≡ x / 256 / 256 ^ k = rw (pow-succ' 256 k) (sym (div-div-eq-div-mul x 256 (256 ^ k))) in
     rw e (ap (λ (r : List ℕ). x % 256 ∷ r) (octetsOf-snoc k (x / 256)))
+
+pub octetsOf-add : (a b x : ℕ) → octetsOf (a + b) x ≡ octetsOf a x ++ octetsOf b (x / 256 ^ a)
+unfolding octetsOf
+octetsOf-add zero b x = rw (zero-add b, div-one x)
+octetsOf-add (suc a) b x =
+    let e : x / 256 ^ suc a ≡ x / 256 / 256 ^ a = rw (pow-succ' 256 a) (sym (div-div-eq-div-mul x 256 (256 ^ a))) in
+    rw (suc-add a b, e) (ap (λ (r : List ℕ). x % 256 ∷ r) (octetsOf-add a b (x / 256)))
+
+-- what lies above does not show
+octetsOf-above : (a x y : ℕ) → octetsOf a (x + 256 ^ a * y) ≡ octetsOf a x
+unfolding octetsOf
+octetsOf-above zero x y = refl
+octetsOf-above (suc a) x y =
+    let e : 256 ^ suc a * y ≡ 256 * (256 ^ a * y) = rw (pow-succ' 256 a) (mul-assoc 256 (256 ^ a) y) in
+    let low : (x + 256 ^ suc a * y) % 256 ≡ x % 256 = omega arith in
+    let high : (x + 256 ^ suc a * y) / 256 ≡ x / 256 + 256 ^ a * y = omega arith in
+    rw (low, high) (ap (λ (r : List ℕ). x % 256 ∷ r) (octetsOf-above a (x / 256) y))
+
+pub octetsOf-low : (a x : ℕ) → octetsOf a (x % 256 ^ a) ≡ octetsOf a x
+octetsOf-low a x =
+    let whole : x % 256 ^ a + 256 ^ a * (x / 256 ^ a) ≡ x = mod-add-div x (256 ^ a) in
+    sym (octetsOf-above a (x % 256 ^ a) (x / 256 ^ a)) ∙ ap (octetsOf a) whole
+
+-- the octets of two numbers, of which the second stands above the first
+octetsOf-pair : (a x y z : ℕ) → x ≡ y % 256 ^ a + 256 ^ a * z → octetsOf (a + a) x ≡ octetsOf a y ++ octetsOf a z
+octetsOf-pair a x y z e =
+    let high : x / 256 ^ a ≡ z
+    = rw (e, add-mul-div-left (y % 256 ^ a) z (weight-pos a), div-eq-of-lt (mod-lt y (weight-pos a))) (zero-add z) in
+    let low : octetsOf a x ≡ octetsOf a y = rw (e, octetsOf-above a (y % 256 ^ a) z) (octetsOf-low a y) in
+    rw (octetsOf-add a a x, low, high)
 
 -- a list with the first k octets of x from place at on
 abbrev pub stored : ℕ → ℕ → ℕ → List ℕ → List ℕ
@@ -107,10 +201,28 @@ take-stored at k x l h =
     rw (← append-assoc (take at l) (octetsOf k x) (drop (at + k) l))
     (take-at (take at l ++ octetsOf k x) (drop (at + k) l) (at + k) (stored-front at k x l h))
 
--- and up to the last but one
-pub take-stored-less : (at k x : ℕ) (l : List ℕ) → at + suc k ≤ length l → take (at + k) (stored at (suc k) x l) ≡ take at l ++ octetsOf k x
-take-stored-less at k x l h =
-    let apart : stored at (suc k) x l ≡ (take at l ++ octetsOf k x) ++ (x / 256 ^ k % 256 ∷ drop (at + suc k) l) = rw (octetsOf-snoc k x) (simp append-assoc) in
+-- some octets, then more of them
+stored-add : (at a b x : ℕ) (l : List ℕ) {r : List ℕ} → at + a + b ≤ length l → r ≡ stored at a x l → stored (at + a) b (x / 256 ^ a) r ≡ stored at (a + b) x l
+stored-add at a b x l {r} h e =
+    let front : take (at + a) r ≡ take at l ++ octetsOf a x = ap (take (at + a)) e ∙ take-stored at a x l (omega arith) in
+    let rest : drop (at + a + b) r ≡ drop (at + a + b) l
+    = ap (drop (at + a + b)) (e ∙ sym (append-assoc (take at l) (octetsOf a x) (drop (at + a) l)))
+    ∙ rw (stored-front at a x l (omega arith)) at (drop-append-add (take at l ++ octetsOf a x) (drop (at + a) l) b)
+    ∙ drop-drop b (at + a) l in
+    let place : at + (a + b) ≡ at + a + b = omega arith in
+    rw (front, rest, octetsOf-add a b x, place) (simp append-assoc)
+
+-- eight octets, stored as four and four
+pub stored-eight : (at x : ℕ) (l : List ℕ) {r : List ℕ} → at + 8 ≤ length l → r ≡ stored at 4 (x % 4294967296) l → stored (at + 4) 4 (x / 4294967296) r ≡ stored at 8 x l
+stored-eight at x l {r} h e =
+    let low : octetsOf 4 (x % 4294967296) ≡ octetsOf 4 x = octetsOf-low 4 x in
+    stored-add at 4 4 x l (omega arith) (rw low at e)
+
+-- and up to the end of the first of them
+take-stored-front : (at k more x : ℕ) (l : List ℕ) → at + (k + more) ≤ length l → take (at + k) (stored at (k + more) x l) ≡ take at l ++ octetsOf k x
+take-stored-front at k more x l h =
+    let apart : stored at (k + more) x l ≡ (take at l ++ octetsOf k x) ++ (octetsOf more (x / 256 ^ k) ++ drop (at + (k + more)) l)
+    = rw (octetsOf-add k more x) (simp append-assoc) in
     rw apart (take-at (take at l ++ octetsOf k x) _ (at + k) (stored-front at k x l (omega arith)))
 
 pub encoded-snoc : (qlen : ℕ) (xs : List ℕ) (x : ℕ) → encoded qlen (xs ++ (x ∷ [])) ≡ encoded qlen xs ++ octetsOf qlen x
@@ -127,6 +239,10 @@ module _ (m qlen : ℕ) {count total : ℕ} (inside : m < count) (exact : count 
   pub place-fits : {bound : ℕ} → total < bound → m * qlen < bound
   place-fits h = omega (arith, place-end)
 
+-- so many octets from a place on, where as many coefficients follow
+pub wide-room : (m qlen octets : ℕ) {count total : ℕ} → m + octets ≤ count → 1 ≤ qlen → count * qlen ≤ total → m * qlen + octets ≤ total
+wide-room m qlen octets inside pos exact = omega (arith, mul-le-mul-right qlen inside, mul-le-mul-left octets pos)
+
 -- a turn of a loop that stores the octets of the word at place m, and perhaps one octet more
 encode-turn : (m qlen : ℕ) (words l r : List ℕ) → m < length words → take (m * qlen + qlen) r ≡ take (m * qlen) l ++ octetsOf qlen (getD words m 0)
     → take (m * qlen) l ≡ encoded qlen (take m words) → take ((m + 1) * qlen) r ≡ encoded qlen (take (m + 1) words)
@@ -140,11 +256,37 @@ pub encode-step : (m qlen : ℕ) (words l : List ℕ) {r : List ℕ} → m < len
 encode-step m qlen words l inside exact e =
     encode-turn m qlen words l _ inside (ap (take (m * qlen + qlen)) e ∙ take-stored (m * qlen) qlen (getD words m 0) l (place-end m qlen inside exact))
 
-pub encode-step-over : (m qlen : ℕ) (words l : List ℕ) {r : List ℕ} → m < length words → m * qlen + suc qlen ≤ length l
-    → r ≡ stored (m * qlen) (suc qlen) (getD words m 0) l → take (m * qlen) l ≡ encoded qlen (take m words)
-    → take ((m + 1) * qlen) r ≡ encoded qlen (take (m + 1) words)
-encode-step-over m qlen words l inside fit e =
-    encode-turn m qlen words l _ inside (ap (take (m * qlen + qlen)) e ∙ take-stored-less (m * qlen) qlen (getD words m 0) l fit)
+-- two words at a time, with perhaps some octets more
+encode-pair : (m qlen more : ℕ) (words l : List ℕ) {x : ℕ} {r : List ℕ} → m + 2 ≤ length words → m * qlen + (qlen + qlen + more) ≤ length l
+    → x ≡ getD words m 0 % 256 ^ qlen + 256 ^ qlen * getD words (m + 1) 0 → r ≡ stored (m * qlen) (qlen + qlen + more) x l
+    → take (m * qlen) l ≡ encoded qlen (take m words) → take ((m + 2) * qlen) r ≡ encoded qlen (take (m + 2) words)
+encode-pair m qlen more words l {x} {r} inside room value e before =
+    let next : (m + 2) * qlen ≡ m * qlen + (qlen + qlen) = omega arith in
+    let front : take (m * qlen + (qlen + qlen)) r ≡ take (m * qlen) l ++ octetsOf (qlen + qlen) x
+    = ap (take (m * qlen + (qlen + qlen))) e ∙ take-stored-front (m * qlen) (qlen + qlen) more x l room in
+    let both : take (m + 2) words ≡ (take m words ++ (getD words m 0 ∷ [])) ++ (getD words (m + 1) 0 ∷ [])
+    = rw (two-more m, take-suc words (m + 1) 0 (omega arith), add-one m, take-suc words m 0 (omega arith)) in
+    rw (
+      next,
+      front,
+      before,
+      both,
+      encoded-snoc qlen (take m words ++ (getD words m 0 ∷ [])) (getD words (m + 1) 0),
+      encoded-snoc qlen (take m words) (getD words m 0),
+      octetsOf-pair qlen x (getD words m 0) (getD words (m + 1) 0) value,
+    )
+    (simp append-assoc)
+  where
+    two-more : (m : ℕ) → m + 2 ≡ suc (m + 1)
+    two-more m = omega arith
+
+pub encode-eight : (m qlen : ℕ) (words l : List ℕ) {x : ℕ} {r : List ℕ} → m + 2 ≤ length words → qlen ≤ 4 → m * qlen + 8 ≤ length l
+    → x ≡ getD words m 0 % 256 ^ qlen + 256 ^ qlen * getD words (m + 1) 0 → r ≡ stored (m * qlen) 8 x l
+    → take (m * qlen) l ≡ encoded qlen (take m words) → take ((m + 2) * qlen) r ≡ encoded qlen (take (m + 2) words)
+encode-eight m qlen words l {x} {r} inside few room value e before = go (8 - (qlen + qlen)) (omega arith)
+  where
+    go : (more : ℕ) → qlen + qlen + more ≡ 8 → take ((m + 2) * qlen) r ≡ encoded qlen (take (m + 2) words)
+    go more size = encode-pair m qlen more words l inside (rw size room) value (rw size e) before
 
 pub encode-end : (m qlen : ℕ) (words l : List ℕ) → length words ≡ m → length l ≡ length words * qlen
     → take (m * qlen) l ≡ encoded qlen (take m words) → l ≡ encoded qlen words
@@ -152,90 +294,3 @@ encode-end m qlen words l end exact e =
     let full : take (m * qlen) l ≡ l = take-all (m * qlen) l (le-of-eq (exact ∙ ap (λ (k : ℕ). k * qlen) end)) in
     let all : take m words ≡ words = take-all m words (le-of-eq end) in
     rw (full, all) at e
-
--- ---- judging
-
-decoded-snoc : (qlen m : ℕ) (octets : List ℕ) → decoded qlen (m + 1) octets ≡ decoded qlen m octets ++ (coefficientAt qlen octets m ∷ [])
-unfolding decoded
-decoded-snoc qlen m octets = rw (add-one m) (tabulate-snoc m (coefficientAt qlen octets))
-
-every-cong : (n : ℕ) {f g : ℕ → Bool} → ((k : ℕ) → k < n → f k ≡ g k) → every n f ≡ every n g
-unfolding every
-every-cong zero h = refl
-every-cong (suc n) {f} {g} h = rw (every-cong n {f = f} {g = g} (λ k l. h k (le-step l)), h n (lt-suc-self n))
-
-coefficientsFit-snoc : (q : ℕ) (xs : List ℕ) (x : ℕ) → coefficientsFit q (xs ++ (x ∷ [])) ≡ (coefficientsFit q xs && ltb x q)
-unfolding coefficientsFit every
-coefficientsFit-snoc q xs x =
-    let e : length (xs ++ (x ∷ [])) ≡ suc (length xs) = omega (arith, length-append xs (x ∷ [])) in
-    rw (
-      e,
-      getD-append-seam xs x [] 0,
-      every-cong (length xs) {f = λ m. ltb (getD (xs ++ (x ∷ [])) m 0) q} {g = λ m. ltb (getD xs m 0) q} (λ k l. rw (List·getD-append xs (x ∷ []) 0 k l)),
-    )
-
-pub fitNumber-nil : (q : ℕ) → fitNumber q [] ≡ 0
-unfolding fitNumber firstRefusal coefficientsFit every
-fitNumber-nil q = refl
-
-pub fitNumber-below : (q : ℕ) (xs : List ℕ) (x : ℕ) → x < q → fitNumber q (xs ++ (x ∷ [])) ≡ fitNumber q xs
-unfolding fitNumber
-fitNumber-below q xs x h = rw (coefficientsFit-snoc q xs x, lt-ltb x q h, and-true (coefficientsFit q xs))
-  where
-    and-true : (t : Bool) → (t && true) ≡ t
-    and-true true = refl
-    and-true false = refl
-
-pub fitNumber-large : (q : ℕ) (xs : List ℕ) (x : ℕ) → q ≤ x → fitNumber q (xs ++ (x ∷ [])) ≡ 8
-unfolding fitNumber firstRefusal
-fitNumber-large q xs x h = rw (coefficientsFit-snoc q xs x, le-ltb x q h, and-false (coefficientsFit q xs))
-  where
-    and-false : (t : Bool) → (t && false) ≡ false
-    and-false true = refl
-    and-false false = refl
-
-pub fitNumber-none : (q qlen : ℕ) (octets : List ℕ) → fitNumber q (decoded qlen 0 octets) ≡ 0
-unfolding decoded tabulate
-fitNumber-none q qlen octets = fitNumber-nil q
-
-module _ (q qlen m : ℕ) (octets : List ℕ) where
-  pub fitNumber-decoded-below : coefficientAt qlen octets m < q → fitNumber q (decoded qlen (m + 1) octets) ≡ fitNumber q (decoded qlen m octets)
-  fitNumber-decoded-below h = rw (decoded-snoc qlen m octets) (fitNumber-below q (decoded qlen m octets) (coefficientAt qlen octets m) h)
-
-  pub fitNumber-decoded-large : q ≤ coefficientAt qlen octets m → fitNumber q (decoded qlen (m + 1) octets) ≡ 8
-  fitNumber-decoded-large h = rw (decoded-snoc qlen m octets) (fitNumber-large q (decoded qlen m octets) (coefficientAt qlen octets m) h)
-
-module _ (q m : ℕ) (words : List ℕ) (h : m < length words) where
-  pub fitNumber-take-below : getD words m 0 < q → fitNumber q (take (m + 1) words) ≡ fitNumber q (take m words)
-  fitNumber-take-below b = rw (add-one m, take-suc words m 0 h) (fitNumber-below q (take m words) (getD words m 0) b)
-
-  pub fitNumber-take-large : q ≤ getD words m 0 → fitNumber q (take (m + 1) words) ≡ 8
-  fitNumber-take-large b = rw (add-one m, take-suc words m 0 h) (fitNumber-large q (take m words) (getD words m 0) b)
-
-pub reading-below : (q x v : ℕ) → readingOf q x ≡ Below v → x < q
-reading-below q x v e =
-    elim (decLt x q) [
-      | yes l ↦ l
-      | no g ↦ let t : ltb x q ≡ false = le-ltb x q (omega arith) in
-          let e' : TooLarge ≡ Below v = rw t at e in
-          let z : _≡_ {A = ℕ} 0 1 = cc in
-          omega arith
-    ]
-
-pub reading-large : (q x : ℕ) → readingOf q x ≡ TooLarge → q ≤ x
-reading-large q x e =
-    elim (decLt x q) [
-      | yes l ↦ let t : ltb x q ≡ true = lt-ltb x q l in
-          let e' : Below x ≡ TooLarge = rw t at e in
-          let z : _≡_ {A = ℕ} 0 1 = cc in
-          omega arith
-      | no g ↦ omega arith
-    ]
-
-pub reading-number : (q x : ℕ) → readingNumber (readingOf q x) ≡ fitNumber q (x ∷ [])
-unfolding fitNumber firstRefusal coefficientsFit every
-reading-number q x = go (ltb x q)
-  where
-    go : (t : Bool) → readingNumber (picked t x) ≡ firstRefusal (refuse 8 (not (true && t)) ∷ [])
-    go true = refl
-    go false = refl

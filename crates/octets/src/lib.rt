@@ -1,21 +1,12 @@
-// Coefficients of qlen octets, least significant first (01, "Ring, monomials, octets"): read, judged, decoded and encoded.
-// A coefficient that is not below q is refused with 8 (01, "Refusal table"). The contracts cite the definitions' coefficientAt, decoded,
-// encoded and coefficientsFit. Each loop is written once, with qlen as a variable; `decode` and its kin call it with a constant, so that
-// the compiler makes a loop for each qlen. Three octets have loops of their own.
-mod threes;
-
+// Coefficients of qlen octets, least significant first (01, "Ring, monomials, octets"): read, written, decoded and encoded. The contracts cite
+// the definitions' numberOf, octetsOf, decoded and encoded. Each loop is written once, with qlen as a variable; `decode` and `encode` call
+// it with a constant, so that the compiler makes a loop for each qlen. Four octets are read, and eight written, at once where there is
+// room for them, and the last few coefficients one by one.
 ghost use mathlib.Core.Path.{_≡_};
 ghost use mathlib.Core.List.{_++_};
-ghost use Prim.Native.Nat.{ℕ, _+_, _*_, _/_, _≤_, _<_};
-ghost use lib.ListN.{length, take, drop};
-ghost use Rattle.definitions.specs.Octets.{numberOf, octetsOf, coefficientAt, decoded, encoded};
-ghost use Rattle.octets.specs.Reading.{readingOf, fitNumber};
-
-// What reading a coefficient finds: its value, or that it is too large.
-pub enum Coefficient {
-    Below(u32),
-    TooLarge,
-}
+ghost use Prim.Native.Nat.{ℕ, _+_, _*_, _/_, _%_, _^_, _≤_, _<_};
+ghost use lib.ListN.{length, take, drop, getD};
+ghost use Rattle.definitions.specs.Octets.{numberOf, octetsOf, decoded, encoded};
 
 fn wide(octet: u8) -> u32
     ensures { λ r. ⌜ (r ≡ octet) × (r < 256) ⌝ }
@@ -46,70 +37,53 @@ pub fn number(octets: &[u8], at: usize, len: usize) -> u32
     three + wide(octets[at + 3]) * 16777216
 }
 
-// Whether a number is a coefficient.
-pub fn bounded(x: u32, q: u32) -> Coefficient
-    ensures { λ r. ⌜ r ≡ readingOf q x ⌝ }
+// Four octets, read at once.
+fn four(octets: &[u8], at: usize) -> u32
+    requires { ⌜ at + 4 ≤ length (now octets) ⌝ }
+    ensures { λ r. ⌜ r ≡ numberOf (take 4 (drop at (now (octets .entry)))) ⌝ }
 {
-    if x < q {
-        Coefficient::Below(x)
-    } else {
-        Coefficient::TooLarge
+    wide(octets[at])
+        + wide(octets[at + 1]) * 256
+        + wide(octets[at + 2]) * 65536
+        + wide(octets[at + 3]) * 16777216
+}
+
+// The number of one to four octets, of which the first are kept of four that are read at once.
+pub fn wide_number(octets: &[u8], at: usize, len: usize) -> u32
+    requires { ⌜ (1 ≤ len) × (len ≤ 4) × (at + 4 ≤ length (now octets)) ⌝ }
+    ensures { λ r. ⌜ r ≡ numberOf (take len (drop at (now (octets .entry)))) ⌝ }
+{
+    let x = four(octets, at);
+    if len == 4 {
+        return x;
     }
+    x % (1 << (8 * len))
 }
 
-// The coefficient at place m.
-pub fn coefficient_at(octets: &[u8], m: usize, qlen: usize, q: u32) -> Coefficient
-    requires { ⌜ (1 ≤ qlen) × (qlen ≤ 4) × (m * qlen + qlen ≤ length (now octets)) ⌝ }
-    ensures { λ r. ⌜ r ≡ readingOf q (coefficientAt qlen (now (octets .entry)) m) ⌝ }
+// The coefficients from a place on, where those before it are decoded.
+fn decode_rest(octets: &[u8], qlen: usize, from: usize, words: &mut [u32])
+    requires { ⌜ (1 ≤ qlen) × (qlen ≤ 4) × (length (now octets) ≡ length (now words) * qlen) ⌝ }
+    requires { ⌜ (from ≤ length (now words)) × (take from (now words) ≡ decoded qlen from (now octets)) ⌝ }
+    ensures { λ _. ⌜ now (words .exit) ≡ decoded qlen (length (now (words .entry))) (now (octets .entry)) ⌝ }
 {
-    bounded(number(octets, m * qlen, qlen), q)
-}
-
-// A refusal is kept to the end, since a loop that goes on in any case is four times as fast.
-fn judge_by(octets: &[u8], qlen: usize, q: u32) -> u32
-    requires { ⌜ (1 ≤ qlen) × (qlen ≤ 4) ⌝ }
-    ensures { λ r. ⌜ r ≡ fitNumber q (decoded qlen (length (now (octets .entry)) / qlen) (now (octets .entry))) ⌝ }
-{
-    let count = octets.len() / qlen;
-    let mut refused = 0;
-    let mut m = 0;
-    while m < count {
-        let place = m;
+    let mut m = from;
+    while m < words.len() {
+        words[m] = number(octets, m * qlen, qlen);
         m += 1;
-        let Coefficient::Below(_) = coefficient_at(octets, place, qlen, q) else {
-            refused = 8;
-            continue;
-        };
     }
-    refused
 }
 
-// 8 where a coefficient in the octets is not below q, otherwise 0.
-pub fn judge(octets: &[u8], qlen: usize, q: u32) -> u32
-    requires { ⌜ (1 ≤ qlen) × (qlen ≤ 4) ⌝ }
-    ensures { λ r. ⌜ r ≡ fitNumber q (decoded qlen (length (now (octets .entry)) / qlen) (now (octets .entry))) ⌝ }
-{
-    if qlen == 1 {
-        return judge_by(octets, 1, q);
-    }
-    if qlen == 2 {
-        return judge_by(octets, 2, q);
-    }
-    if qlen == 3 {
-        return threes::judge(octets, q);
-    }
-    judge_by(octets, 4, q)
-}
-
+// While three coefficients more follow, four octets can be read at once.
 fn decode_by(octets: &[u8], qlen: usize, words: &mut [u32])
     requires { ⌜ (1 ≤ qlen) × (qlen ≤ 4) × (length (now octets) ≡ length (now words) * qlen) ⌝ }
     ensures { λ _. ⌜ now (words .exit) ≡ decoded qlen (length (now (words .entry))) (now (octets .entry)) ⌝ }
 {
     let mut m = 0;
-    while m < words.len() {
-        words[m] = number(octets, m * qlen, qlen);
+    while words.len() - m > 3 {
+        words[m] = wide_number(octets, m * qlen, qlen);
         m += 1;
     }
+    decode_rest(octets, qlen, m, words);
 }
 
 // The coefficients of octets, as words.
@@ -126,27 +100,10 @@ pub fn decode(octets: &[u8], qlen: usize, words: &mut [u32])
         return;
     }
     if qlen == 3 {
-        threes::decode(octets, words);
+        decode_by(octets, 3, words);
         return;
     }
     decode_by(octets, 4, words);
-}
-
-// 8 where a word is not below q, otherwise 0.
-pub fn judge_words(words: &[u32], q: u32) -> u32
-    ensures { λ r. ⌜ r ≡ fitNumber q (now (words .entry)) ⌝ }
-{
-    let mut refused = 0;
-    let mut m = 0;
-    while m < words.len() {
-        let x = words[m];
-        m += 1;
-        let Coefficient::Below(_) = bounded(x, q) else {
-            refused = 8;
-            continue;
-        };
-    }
-    refused
 }
 
 // Up to four octets of a number, from a place on.
@@ -172,15 +129,48 @@ pub fn store(octets: &mut [u8], at: usize, len: usize, x: u32)
     octets[at + 3] = (x / 16777216 % 256) as u8;
 }
 
+// Eight octets of a number, from a place on.
+fn store_eight(octets: &mut [u8], at: usize, x: u64)
+    requires { ⌜ at + 8 ≤ length (now octets) ⌝ }
+    ensures { λ _. ⌜ now (octets .exit) ≡ take at (now (octets .entry)) ++ (octetsOf 8 x ++ drop (at + 8) (now (octets .entry))) ⌝ }
+{
+    store(octets, at, 4, (x % 4294967296) as u32);
+    store(octets, at + 4, 4, (x / 4294967296) as u32);
+}
+
+// The number whose octets are those of two words.
+fn pair(words: &[u32], m: usize, qlen: usize) -> u64
+    requires { ⌜ (1 ≤ qlen) × (qlen ≤ 4) × (m + 2 ≤ length (now words)) ⌝ }
+    ensures { λ r. ⌜ r ≡ getD (now (words .entry)) m 0 % 256 ^ qlen + 256 ^ qlen * getD (now (words .entry)) (m + 1) 0 ⌝ }
+{
+    let weight: u64 = 1 << (8 * qlen);
+    (words[m] as u64) % weight + weight * (words[m + 1] as u64)
+}
+
+// The octets of the words from a place on, where those of the words before it are encoded.
+fn encode_rest(words: &[u32], qlen: usize, from: usize, octets: &mut [u8])
+    requires { ⌜ (1 ≤ qlen) × (qlen ≤ 4) × (length (now octets) ≡ length (now words) * qlen) ⌝ }
+    requires { ⌜ (from ≤ length (now words)) × (take (from * qlen) (now octets) ≡ encoded qlen (take from (now words))) ⌝ }
+    ensures { λ _. ⌜ now (octets .exit) ≡ encoded qlen (now (words .entry)) ⌝ }
+{
+    let mut m = from;
+    while m < words.len() {
+        store(octets, m * qlen, qlen, words[m]);
+        m += 1;
+    }
+}
+
+// Two words at a time, stored as eight octets at once; those past the two words' own are written over later.
 fn encode_by(words: &[u32], qlen: usize, octets: &mut [u8])
     requires { ⌜ (1 ≤ qlen) × (qlen ≤ 4) × (length (now octets) ≡ length (now words) * qlen) ⌝ }
     ensures { λ _. ⌜ now (octets .exit) ≡ encoded qlen (now (words .entry)) ⌝ }
 {
     let mut m = 0;
-    while m < words.len() {
-        store(octets, m * qlen, qlen, words[m]);
-        m += 1;
+    while words.len() - m > 8 {
+        store_eight(octets, m * qlen, pair(words, m, qlen));
+        m += 2;
     }
+    encode_rest(words, qlen, m, octets);
 }
 
 // The octets of words.
@@ -197,7 +187,7 @@ pub fn encode(words: &[u32], qlen: usize, octets: &mut [u8])
         return;
     }
     if qlen == 3 {
-        threes::encode(words, octets);
+        encode_by(words, 3, octets);
         return;
     }
     encode_by(words, 4, octets);

@@ -5,7 +5,7 @@
 --   bitAt-part       the bits of a part of a list
 --   fieldsOf-..      numbers from a number, one more; octets are such
 --   regrouped-add    a list regrouped, then so many places more, from the number of a group
---   regrouped-group  one group more: v numbers of w bits are w numbers of v bits;  group-step: as a loop makes it
+--   regrouped-group  one group more: so many numbers of w bits, that are so many places of v bits;  group-step: as a loop makes it
 --   regrouped-parts  whole groups, a last one that may be short, and zeros
 -- Assumes nothing.
 use Prim.Native.Nat.{ℕ, zero, suc, _+_, _-_, _*_, _/_, _%_, _^_, _≤_, _<_, min}
@@ -147,20 +147,21 @@ regrouped-add w v numbers a c i count pos below start same =
         ∙ same (k * v + j) (digits-lt l s)
         ∙ ap (bitAt w numbers) (rw (start) (omega arith))))
 
--- a group: v numbers of w bits are w numbers of v bits
-pub regrouped-group : (w v : ℕ) (numbers : List ℕ) (g : ℕ) → 0 < w → AllBelow (2 ^ w) numbers
-    → regrouped w v (g * w + w) numbers ≡ regrouped w v (g * w) numbers ++ fieldsOf v w (valueIn w (take v (drop (g * v) numbers)))
-regrouped-group w v numbers g pos below =
-    regrouped-add w v numbers (g * v) v (g * w) w pos below (omega arith)
-    (λ t l. bitAt-part w numbers pos (g * v) v t (rw (mul-comm v w) l))
+-- a group: so many numbers of w bits are so many places of v bits
+pub regrouped-group : (w v places many : ℕ) (numbers : List ℕ) (g : ℕ) → 0 < w → many * w ≡ places * v → AllBelow (2 ^ w) numbers
+    → regrouped w v (g * places + places) numbers ≡ regrouped w v (g * places) numbers ++ fieldsOf v places (valueIn w (take many (drop (g * many) numbers)))
+regrouped-group w v places many numbers g pos same below =
+    let start : g * many * w ≡ g * places * v = mul-assoc g many w ∙ ap (λ (k : ℕ). g * k) same ∙ sym (mul-assoc g places v) in
+    regrouped-add w v numbers (g * many) many (g * places) places pos below start
+    (λ t l. bitAt-part w numbers pos (g * many) many t (rw same l))
 
 -- a turn of a loop over groups
-pub group-step : (w v : ℕ) (numbers l r : List ℕ) (g : ℕ) {x : ℕ} → 0 < w → AllBelow (2 ^ w) numbers
-    → take (g * w) l ≡ regrouped w v (g * w) numbers → x ≡ valueIn w (take v (drop (g * v) numbers))
-    → take (g * w + w) r ≡ take (g * w) l ++ fieldsOf v w x → take ((g + 1) * w) r ≡ regrouped w v ((g + 1) * w) numbers
-group-step w v numbers l r g pos below before value step =
-    let next : (g + 1) * w ≡ g * w + w = omega arith in
-    rw (next, regrouped-group w v numbers g pos below, ← before, ← value) step
+pub group-step : (w v places many : ℕ) (numbers l r : List ℕ) (g : ℕ) {x : ℕ} → 0 < w → many * w ≡ places * v → AllBelow (2 ^ w) numbers
+    → take (g * places) l ≡ regrouped w v (g * places) numbers → x ≡ valueIn w (take many (drop (g * many) numbers))
+    → take (g * places + places) r ≡ take (g * places) l ++ fieldsOf v places x → take ((g + 1) * places) r ≡ regrouped w v ((g + 1) * places) numbers
+group-step w v places many numbers l r g pos same below before value step =
+    let next : (g + 1) * places ≡ g * places + places = omega arith in
+    rw (next, regrouped-group w v places many numbers g pos same below, ← before, ← value) step
 
 -- the places past the last bit are zero
 pub regrouped-zeros : (w v : ℕ) (numbers : List ℕ) (i count : ℕ) → 0 < w → length numbers * w ≤ i * v
@@ -173,51 +174,56 @@ regrouped-zeros w v numbers i count pos past =
     (bitAt-outside w numbers ((i + k) * v + j) pos (omega arith)) ∙ mul-zero (2 ^ j))))
 
 -- so many groups, then a last one that may be short in numbers or in places, then zeros
-module _ (w v n : ℕ) (numbers : List ℕ) (posw : 0 < w) (posv : 0 < v) (g : ℕ) (groups : g ≡ min (n / w) (length numbers / v)) where
-  pub groups-places : g * w ≤ n
-  groups-places = le-trans (mul-le-mul-right w (le-trans (le-of-eq groups) (min-le-left (n / w) (length numbers / v)))) (div-mul-le-self n w)
+module _ (w v places many n : ℕ) (numbers : List ℕ) (posw : 0 < w) (posW : 0 < places) (posV : 0 < many) (same : many * w ≡ places * v) (g : ℕ)
+    (groups : g ≡ min (n / places) (length numbers / many))
+  where
+    pub groups-places : g * places ≤ n
+    groups-places = le-trans (mul-le-mul-right places (le-trans (le-of-eq groups) (min-le-left (n / places) (length numbers / many)))) (div-mul-le-self n places)
 
-  pub groups-numbers : g * v ≤ length numbers
-  groups-numbers =
-      le-trans (mul-le-mul-right v (le-trans (le-of-eq groups) (min-le-right (n / w) (length numbers / v)))) (div-mul-le-self (length numbers) v)
+    pub groups-numbers : g * many ≤ length numbers
+    groups-numbers =
+        le-trans (mul-le-mul-right many (le-trans (le-of-eq groups) (min-le-right (n / places) (length numbers / many)))) (div-mul-le-self (length numbers) many)
 
-  -- where a whole group of places is left, the numbers end within it
-  numbers-end : w < n - g * w → length numbers * w ≤ (g * w + w) * v
-  numbers-end more =
-      let room : g < n / w = le-div-iff-mul-le posw .1 (omega (arith, suc-mul g w)) in
-      let all : g ≡ length numbers / v = omega arith in
-      let short : length numbers < suc g * v = div-lt-iff-lt-mul posv .0 (omega arith) in
-      le-trans (mul-le-mul-right w (le-of-lt short)) (omega (arith, suc-mul g v))
+    start : g * many * w ≡ g * places * v
+    start = mul-assoc g many w ∙ ap (λ (k : ℕ). g * k) same ∙ sym (mul-assoc g places v)
 
-  module _ (below : AllBelow (2 ^ w) numbers) (count len : ℕ) (counts : count ≡ min (n - g * w) w) (lens : len ≡ min (length numbers - g * v) v) where
-    last-bits : (t : ℕ) → t < count * v → bitAt w (take len (drop (g * v) numbers)) t ≡ bitAt w numbers (g * v * w + t)
-    last-bits t l =
-        elim (decLt (length numbers - g * v) v) [
-          | yes s ↦ bitAt-rest w numbers posw (g * v) len (omega arith) t
-          | no s ↦ let whole : len ≡ v = omega arith in
-              let narrow : count * v ≤ w * v = mul-le-mul-right v (omega arith) in
-              bitAt-part w numbers posw (g * v) len t (rw whole (omega arith))
-        ]
+    -- where a whole group of places is left, the numbers end within it
+    numbers-end : places < n - g * places → length numbers * w ≤ (g * places + places) * v
+    numbers-end more =
+        let room : g < n / places = le-div-iff-mul-le posW .1 (omega (arith, suc-mul g places)) in
+        let all : g ≡ length numbers / many = omega arith in
+        let short : length numbers < suc g * many = div-lt-iff-lt-mul posV .0 (omega arith) in
+        le-trans (mul-le-mul-right w (le-of-lt short)) (omega (arith, suc-mul g many, same, start))
 
-    pub regrouped-parts : regrouped w v n numbers
-        ≡ (regrouped w v (g * w) numbers ++ fieldsOf v count (valueIn w (take len (drop (g * v) numbers)))) ++ replicate (n - (g * w + count)) 0
-    regrouped-parts =
-        rw (← regrouped-add w v numbers (g * v) len (g * w) count posw below (omega arith) last-bits)
-        (elim (decLt w (n - g * w)) [
-          | yes s ↦ let whole : count ≡ w = omega arith in
-              let split : n ≡ (g * w + count) + (n - (g * w + count)) = omega (arith, groups-places) in
-              ap (λ (k : ℕ). regrouped w v k numbers) split
-              ∙ regrouped-zeros w v numbers (g * w + count) (n - (g * w + count)) posw (rw whole (numbers-end s))
-          | no s ↦ let end : g * w + count ≡ n = omega (arith, groups-places) in
-              let none : n - n ≡ 0 = omega arith in
-              rw (end, none, append-nil (regrouped w v n numbers))
-        ])
+    module _ (below : AllBelow (2 ^ w) numbers) (count len : ℕ) (counts : count ≡ min (n - g * places) places) (lens : len ≡ min (length numbers - g * many) many) where
+      last-bits : (t : ℕ) → t < count * v → bitAt w (take len (drop (g * many) numbers)) t ≡ bitAt w numbers (g * many * w + t)
+      last-bits t l =
+          elim (decLt (length numbers - g * many) many) [
+            | yes s ↦ bitAt-rest w numbers posw (g * many) len (omega arith) t
+            | no s ↦ let whole : len ≡ many = omega arith in
+                let narrow : count * v ≤ places * v = mul-le-mul-right v (omega arith) in
+                bitAt-part w numbers posw (g * many) len t (rw (whole, same) (omega arith))
+          ]
 
-    -- as code makes it: the groups, the last one behind them, zeros behind that
-    pub parts-whole : (l₁ l₂ l₃ : List ℕ) {x : ℕ} → take (g * w) l₁ ≡ regrouped w v (g * w) numbers
-        → x ≡ valueIn w (take len (drop (g * v) numbers)) → take (g * w + count) l₂ ≡ take (g * w) l₁ ++ fieldsOf v count x
-        → length l₂ ≡ n → l₃ ≡ take (g * w + count) l₂ ++ replicate (length l₂ - (g * w + count)) 0 → l₃ ≡ regrouped w v n numbers
-    parts-whole l₁ l₂ l₃ first value last full cleared = rw (cleared, full, last, first, value) (sym regrouped-parts)
+      pub regrouped-parts : regrouped w v n numbers
+          ≡ (regrouped w v (g * places) numbers ++ fieldsOf v count (valueIn w (take len (drop (g * many) numbers)))) ++ replicate (n - (g * places + count)) 0
+      regrouped-parts =
+          rw (← regrouped-add w v numbers (g * many) len (g * places) count posw below start last-bits)
+          (elim (decLt places (n - g * places)) [
+            | yes s ↦ let whole : count ≡ places = omega arith in
+                let split : n ≡ (g * places + count) + (n - (g * places + count)) = omega (arith, groups-places) in
+                ap (λ (k : ℕ). regrouped w v k numbers) split
+                ∙ regrouped-zeros w v numbers (g * places + count) (n - (g * places + count)) posw (rw whole (numbers-end s))
+            | no s ↦ let end : g * places + count ≡ n = omega (arith, groups-places) in
+                let none : n - n ≡ 0 = omega arith in
+                rw (end, none, append-nil (regrouped w v n numbers))
+          ])
+
+      -- as code makes it: the groups, the last one behind them, zeros behind that
+      pub parts-whole : (l₁ l₂ l₃ : List ℕ) {x : ℕ} → take (g * places) l₁ ≡ regrouped w v (g * places) numbers
+          → x ≡ valueIn w (take len (drop (g * many) numbers)) → take (g * places + count) l₂ ≡ take (g * places) l₁ ++ fieldsOf v count x
+          → length l₂ ≡ n → l₃ ≡ take (g * places + count) l₂ ++ replicate (length l₂ - (g * places + count)) 0 → l₃ ≡ regrouped w v n numbers
+      parts-whole l₁ l₂ l₃ first value last full cleared = rw (cleared, full, last, first, value) (sym regrouped-parts)
 
 -- what stands up to the end of octets that were stored
 pub take-stored-fields : (at len x : ℕ) (l r : List ℕ) → at + len ≤ length l → r ≡ stored at len x l → take (at + len) r ≡ take at l ++ fieldsOf 8 len x

@@ -1,4 +1,5 @@
 -- Laws that the proofs cite.
 pub mod Fields
+pub mod Lanes
 pub mod Shifts
 pub mod Unused

@@ -1,2 +1,3 @@
 -- What the contracts cite besides the definitions.
 pub mod Fields
+pub mod Lanes

@@ -69,7 +69,7 @@ pub fn value(p: Parameters, d: usize, secret: &[u8], octets: &[u8], work: &mut [
         return refusals::PADDING;
     }
     let qlen = lengths::octets_of_coefficient(p.q);
-    if octets::judge(octets, qlen, p.q) != 0 {
+    if judging::judge(octets, qlen, p.q) != 0 {
         return refusals::COEFFICIENT;
     }
     unpack(p, secret, work);

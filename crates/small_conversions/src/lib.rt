@@ -45,10 +45,11 @@ pub fn small_to_octets(p: Parameters, words: &[u32], octets: &mut [u8]) -> u32
     if octets.len() != lengths::small_length(p) {
         return refusals::LENGTH;
     }
-    let judged = octets::judge_words(words, p.l);
+    let b = parameters::bits(p.l);
+    let judged = judging::judge_small(words, b);
     if judged != 0 {
         return judged;
     }
-    packing::pack(words, parameters::bits(p.l), octets);
+    packing::pack(words, b, octets);
     0
 }

@@ -9,7 +9,7 @@ use Rattle.definitions.specs.Calls.{elementsFit}
 use Rattle.definitions.specs.Demand3.{AcceptedSet}
 use Rattle.definitions.proofs.Parameters.{accepted-set, key-degree-most, mask-degree-most, modulus-positive, modulus-word, qlen-least, qlen-most}
 use Rattle.parameters.specs.Answers.{setFrom}
-use Rattle.octets.proofs.Judged.{judged-fits, judged-refused}
+use Rattle.judging.proofs.Judged.{judged-fits, judged-refused}
 use Rattle.addition.proofs.Returns.{Exact, addExit-set, addExit-a-length, addExit-b-length, addExit-sum-length, addExit-a-refused, addExit-b-refused, exact-judged, addExit-accepted, ciphertextLength-count}
 use Rattle.addition.proofs.add.Statement.{statement}
 use Rattle.addition.proofs.add.Tie as tie

@@ -3,7 +3,7 @@
 use mathlib.Core.Path.{_≡_, sym, _∙_}
 use Rattle.definitions.specs.Parameters.{qlen}
 use Rattle.definitions.specs.Octets.{encoded}
-use Rattle.octets.specs.Reading.{fitNumber}
+use Rattle.judging.specs.Reading.{fitNumber}
 use Rattle.parameters.specs.Answers.{setFrom}
 use Rattle.definitions.proofs.Conversions.{to-tested, exit-first, exit-second, exit-refused, exit-accepted}
 use Rattle.conversions.proofs.Sets.{octets-least, octets-most, elements-fit, elements-octets}

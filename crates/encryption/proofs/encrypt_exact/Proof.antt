@@ -7,7 +7,7 @@ use Rattle.definitions.specs.Parameters.{publicLength}
 use Rattle.definitions.specs.Octets.{paddingClear}
 use Rattle.definitions.proofs.Parameters.{accepted-set, modulus-positive, modulus-word, qlen-least, qlen-most}
 use Rattle.parameters.specs.Answers.{setFrom}
-use Rattle.octets.proofs.Judged.{judged-fits, judged-refused}
+use Rattle.judging.proofs.Judged.{judged-fits, judged-refused}
 use Rattle.packing.proofs.Unused.{paddingNumber-passed, paddingNumber-refused}
 use Rattle.encryption.proofs.Returns.{encrypt-padding, encrypt-coefficient}
 use Rattle.encryption.proofs.encrypt_exact.Statement.{statement}

@@ -1,4 +1,4 @@
--- `octets::decode` calls one loop, for the qlen that its tests found.
+-- `octets::decode` calls one loop, at the qlen that its tests found.
 -- Assumes nothing.
 use mathlib.Core.Path.{_≡_}
 use native.Mathlib.Omega.{arith}
@@ -34,11 +34,11 @@ returns-2 c =
     let e : c .before .before .before .before .before .before .before .before .args .qlen ≡ 2 = omega arith in
     rw e (c .before .before .decode-by2 .ensures)
 
-decode-requires : tie.Need-decode-requires
-decode-requires c κs =
+decode-by-requires-3 : tie.Need-decode-by-requires-3
+decode-by-requires-3 c κs =
     let s = c .before .before .before .before .before .before in
     let e : s .args .qlen ≡ 3 = omega arith in
-    rw e at (s .pre .2)
+    rw e at (s .pre)
 
 same-length-3 : tie.Need-same-length-3
 same-length-3 c = search needs
@@ -46,10 +46,10 @@ same-length-3 c = search needs
 returns-3 : tie.Need-returns-3
 returns-3 c =
     let e : c .before .before .before .before .before .before .before .before .before .args .qlen ≡ 3 = omega arith in
-    rw e (c .before .before .decode .ensures)
+    rw e (c .before .before .decode-by3 .ensures)
 
-decode-by-requires-3 : tie.Need-decode-by-requires-3
-decode-by-requires-3 c κs =
+decode-by-requires-4 : tie.Need-decode-by-requires-4
+decode-by-requires-4 c κs =
     let s = c .before .before .before .before .before .before in
     let e : s .args .qlen ≡ 4 = omega arith in
     rw e at (s .pre)
@@ -60,7 +60,7 @@ same-length-4 c = search needs
 returns-4 : tie.Need-returns-4
 returns-4 c =
     let e : c .before .before .before .before .before .before .before .before .before .args .qlen ≡ 4 = omega arith in
-    rw e (c .before .before .decode-by3 .ensures)
+    rw e (c .before .before .decode-by4 .ensures)
 
 pub decode-spec : {M : Type 1} → statement M
 decode-spec =
@@ -72,9 +72,9 @@ decode-spec =
     decode-by-requires-2
     same-length-2
     returns-2
-    decode-requires
+    decode-by-requires-3
     same-length-3
     returns-3
-    decode-by-requires-3
+    decode-by-requires-4
     same-length-4
     returns-4)

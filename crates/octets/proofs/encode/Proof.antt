@@ -1,4 +1,4 @@
--- `octets::encode` calls one loop, for the qlen that its tests found.
+-- `octets::encode` calls one loop, at the qlen that its tests found.
 -- Assumes nothing.
 use mathlib.Core.Path.{_≡_}
 use native.Mathlib.Omega.{arith}
@@ -34,11 +34,11 @@ returns-2 c =
     let e : c .before .before .before .before .before .before .before .before .args .qlen ≡ 2 = omega arith in
     rw e (c .before .before .encode-by2 .ensures)
 
-encode-requires : tie.Need-encode-requires
-encode-requires c κs =
+encode-by-requires-3 : tie.Need-encode-by-requires-3
+encode-by-requires-3 c κs =
     let s = c .before .before .before .before .before .before in
     let e : s .args .qlen ≡ 3 = omega arith in
-    rw e at (s .pre .2)
+    rw e at (s .pre)
 
 same-length-3 : tie.Need-same-length-3
 same-length-3 c = search needs
@@ -46,10 +46,10 @@ same-length-3 c = search needs
 returns-3 : tie.Need-returns-3
 returns-3 c =
     let e : c .before .before .before .before .before .before .before .before .before .args .qlen ≡ 3 = omega arith in
-    rw e (c .before .before .encode .ensures)
+    rw e (c .before .before .encode-by3 .ensures)
 
-encode-by-requires-3 : tie.Need-encode-by-requires-3
-encode-by-requires-3 c κs =
+encode-by-requires-4 : tie.Need-encode-by-requires-4
+encode-by-requires-4 c κs =
     let s = c .before .before .before .before .before .before in
     let e : s .args .qlen ≡ 4 = omega arith in
     rw e at (s .pre)
@@ -60,7 +60,7 @@ same-length-4 c = search needs
 returns-4 : tie.Need-returns-4
 returns-4 c =
     let e : c .before .before .before .before .before .before .before .before .before .args .qlen ≡ 4 = omega arith in
-    rw e (c .before .before .encode-by3 .ensures)
+    rw e (c .before .before .encode-by4 .ensures)
 
 pub encode-spec : {M : Type 1} → statement M
 encode-spec =
@@ -72,9 +72,9 @@ encode-spec =
     encode-by-requires-2
     same-length-2
     returns-2
-    encode-requires
+    encode-by-requires-3
     same-length-3
     returns-3
-    encode-by-requires-3
+    encode-by-requires-4
     same-length-4
     returns-4)

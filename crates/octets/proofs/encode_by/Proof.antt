@@ -1,13 +1,13 @@
--- `octets::encode_by` is right because each turn stores the octets of its word behind those of the words before it.
+-- `octets::encode_by` is right because each turn stores the octets of two words behind those of the words before, and the last ones follow.
 -- Assumes nothing.
-use Prim.Native.Nat.{_-_, _*_, _≤_}
+use Prim.Native.Nat.{_+_, _-_, _*_, _≤_, _<_}
 use mathlib.Core.Path.{_≡_, refl, sym, _∙_}
 use native.Mathlib.Nat.{le-of-eq, zero-mul}
 use native.Mathlib.Omega.{arith}
 use lib.ListN.{length, take}
 use Rattle.definitions.specs.Sequences.{joined}
 use Rattle.definitions.specs.Octets.{encoded}
-use Rattle.octets.proofs.Laws.{place-end, place-fits, encode-step, encode-end}
+use Rattle.octets.proofs.Laws.{place-fits, wide-room, encode-eight}
 use Rattle.octets.proofs.encode_by.Statement.{statement}
 use Rattle.octets.proofs.encode_by.Tie as tie
 
@@ -22,26 +22,32 @@ loop-holds : tie.Need-loop-holds Inv-loop μ-loop
 unfolding encoded joined
 loop-holds c = (omega arith, refl, rw (zero-mul (c .before .before .args .qlen)))
 
-exact : (c : tie.After-store-arg Inv-loop μ-loop)
+sub-loop : tie.Need-sub-loop Inv-loop μ-loop
+sub-loop c = c .loop .inv .0
+
+exact : (c : tie.After-store-eight-arg Inv-loop μ-loop)
     → length (c .before .before .before .before .before .args .words .now) * c .before .before .before .before .before .args .qlen
     ≤ length (c .before .before .loop .octets)
 exact c = le-of-eq (sym (c .before .before .loop .inv .1 ∙ c .before .before .before .before .before .pre .2))
 
-mul-store : tie.Need-mul-store Inv-loop μ-loop
-mul-store c =
+eight : (c : tie.After-store-eight-arg Inv-loop μ-loop)
+    → c .before .before .loop .m * c .before .before .before .before .before .args .qlen + 8 ≤ length (c .before .before .loop .octets)
+eight c =
     let s = c .before .before .before .before .before in
-    record { fits = place-fits (c .before .before .loop .m) (s .args .qlen) (c .before .loop-test .taken) (exact c) (omega arith) }
+    let more : c .before .before .loop .m + 8 ≤ length (s .args .words .now) = omega arith in
+    wide-room (c .before .before .loop .m) (s .args .qlen) 8 more (omega arith) (exact c)
 
-mul-store-2 : tie.Need-mul-store-2 Inv-loop μ-loop
-mul-store-2 c = omega arith
+mul-store-eight : tie.Need-mul-store-eight Inv-loop μ-loop
+mul-store-eight c =
+    let s = c .before .before .before .before .before in
+    let inside : c .before .before .loop .m < length (s .args .words .now) = omega arith in
+    record { fits = place-fits (c .before .before .loop .m) (s .args .qlen) inside (exact c) (omega arith) }
 
-shared-slice-read-store : tie.Need-shared-slice-read-store Inv-loop μ-loop
-shared-slice-read-store c = omega arith
+pair-requires : tie.Need-pair-requires Inv-loop μ-loop
+pair-requires c κs = (omega arith, omega arith, omega arith)
 
-store-requires : tie.Need-store-requires Inv-loop μ-loop
-store-requires c κs =
-    let s = c .before .before .before .before .before .before in
-    (omega arith, place-end (c .before .before .before .loop .m) (s .args .qlen) (c .before .before .loop-test .taken) (exact (c .before)))
+store-eight-requires : tie.Need-store-eight-requires Inv-loop μ-loop
+store-eight-requires c κs = eight (c .before)
 
 add-m : tie.Need-add-m Inv-loop μ-loop
 add-m c = omega arith
@@ -55,18 +61,20 @@ loop-again c =
     let l = c .before .before .before .before .before .before .loop in (
       omega arith,
       omega arith,
-      encode-step (l .m) (a .qlen) (a .words .now) (l .octets) (c .before .before .before .before .before .loop-test .taken) (exact (c .before .before .before .before)) (c .before .before .store .ensures) (l .inv .2),
+      encode-eight (l .m) (a .qlen) (a .words .now) (l .octets) (omega arith) (omega arith) (eight (c .before .before .before .before))
+          (c .before .before .before .pair .ensures) (c .before .before .store-eight .ensures) (l .inv .2),
     )
+
+encode-rest-requires : tie.Need-encode-rest-requires Inv-loop μ-loop
+encode-rest-requires c κs =
+    let l = c .before .before .loop in
+    ((omega arith, omega arith, l .inv .1 ∙ c .before .before .before .before .before .pre .2), (l .inv .0, l .inv .2))
 
 same-length : tie.Need-same-length Inv-loop μ-loop
 same-length c = omega arith
 
 returns : tie.Need-returns Inv-loop μ-loop
-returns c =
-    let s = c .before .before .before .before in
-    let l = c .before .loop in
-    let end : length (s .args .words .now) ≡ l .m = omega arith in
-    encode-end (l .m) (s .args .qlen) (s .args .words .now) (l .octets) end (l .inv .1 ∙ s .pre .2) (l .inv .2)
+returns c = c .before .before .encode-rest .ensures
 
 pub encode-by-spec : {M : Type 1} → statement M
 encode-by-spec =
@@ -75,12 +83,13 @@ encode-by-spec =
     Inv-loop
     μ-loop
     loop-holds
-    mul-store
-    mul-store-2
-    shared-slice-read-store
-    store-requires
+    sub-loop
+    mul-store-eight
+    pair-requires
+    store-eight-requires
     add-m
     loop-less
     loop-again
+    encode-rest-requires
     same-length
     returns)

@@ -31,7 +31,7 @@ shared-slice-read-x : tie.Need-shared-slice-read-x Inv-loop μ-loop
 shared-slice-read-x c = omega arith
 
 narrow : (c : tie.After-shared-slice-known Inv-loop μ-loop) → c .before .before .loop .k * c .before .before .before .args .b < 32
-narrow c = shift-below (c .before .before .loop .k) (c .before .before .before .args .b) (omega arith) (omega arith)
+narrow c = shift-below (c .before .before .loop .k) (c .before .before .before .args .count) (c .before .before .before .args .b) (omega arith) (c .before .before .before .pre .1) (omega arith)
 
 mul-x-2 : tie.Need-mul-x-2 Inv-loop μ-loop
 mul-x-2 c = record { fits = lt-of-lt-of-le (narrow c) (lit≤ tt) }
@@ -48,8 +48,8 @@ add-x-2 c =
     let l = c .before .before .loop in
     record {
       fits =
-          rw (gather-step (s .args .words .now) (s .args .at) (s .args .b) (l .k) (s .pre .4) (omega arith) (omega arith) (omega arith) (l .inv .1))
-          (gather-fits (s .args .words .now) (s .args .at) (s .args .b) (l .k) (s .pre .4) (omega arith) (omega arith) (omega arith));
+          rw (gather-step (s .args .words .now) (s .args .at) (s .args .b) (l .k) (s .args .count) (s .pre .3) (omega arith) (s .pre .1) (omega arith) (l .inv .1))
+          (gather-fits (s .args .words .now) (s .args .at) (s .args .b) (l .k) (s .args .count) (s .pre .3) (omega arith) (s .pre .1) (omega arith));
     }
 
 add-k : tie.Need-add-k Inv-loop μ-loop
@@ -62,7 +62,7 @@ loop-again : tie.Need-loop-again Inv-loop μ-loop
 loop-again c =
     let s = c .before .before .before in
     let l = c .before .before .loop in
-    (omega arith, gather-step (s .args .words .now) (s .args .at) (s .args .b) (l .k) (s .pre .4) (omega arith) (omega arith) (omega arith) (l .inv .1))
+    (omega arith, gather-step (s .args .words .now) (s .args .at) (s .args .b) (l .k) (s .args .count) (s .pre .3) (omega arith) (s .pre .1) (omega arith) (l .inv .1))
 
 returns : tie.Need-returns Inv-loop μ-loop
 returns c =

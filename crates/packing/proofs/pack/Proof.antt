@@ -1,6 +1,6 @@
 -- `packing::pack` is right because whole groups, the last one and zeros are all that there is.
 -- Assumes nothing.
-use Prim.Native.Nat.{_+_, _*_, _≤_}
+use Prim.Native.Nat.{_+_, _*_, _/_, _≤_}
 use mathlib.Core.Path.{_∙_}
 use native.Mathlib.Nat.{lt-of-le-of-lt}
 use native.Mathlib.Omega.{arith}
@@ -8,34 +8,57 @@ use lib.ListN.{length}
 use Rattle.definitions.specs.Octets.{packed}
 use Rattle.definitions.proofs.Octets.{coefficientsFit-below}
 use Rattle.packing.proofs.Fields.{groups-places, groups-numbers, part-end, parts-whole, take-stored-fields}
+use Rattle.packing.proofs.Lanes.{ratio-small, size-positive, len-small, len-some, group-bits, rest-narrow}
 use borrow.Author.Needs.{needs}
 use Rattle.packing.proofs.pack.Statement.{statement}
 use Rattle.packing.proofs.pack.Tie as tie
 
+div-many : tie.Need-div-many
+div-many c = search needs
+
+mul-size : tie.Need-mul-size
+mul-size c =
+    let s = c .before .before in
+    omega (arith, ratio-small (s .args .b) (s .pre .0) (s .pre .1))
+
+mul-len : tie.Need-mul-len
+mul-len c =
+    let s = c .before .before in
+    omega (arith, len-small (s .args .b) (s .pre .0) (s .pre .1))
+
 div-least : tie.Need-div-least
-div-least c = search needs
+div-least c =
+    let s = c .before .before in
+    len-some (s .args .b) (s .pre .0) (s .pre .1)
+
+div-least-2 : tie.Need-div-least-2
+div-least-2 c =
+    let s = c .before .before in
+    size-positive (s .args .b) (s .pre .0) (s .pre .1)
 
 least-requires : tie.Need-least-requires
 least-requires c κs = search needs
 
-places : (c : tie.After-least) → c .least .result * c .before .before .before .args .b ≤ length (c .before .before .before .args .octets .now)
+places : (c : tie.After-least) → c .least .result * (4 / c .before .before .before .args .b * c .before .before .before .args .b) ≤ length (c .before .before .before .args .octets .now)
 places c =
-    let a = c .before .before .before .args in
-    groups-places (a .b) 8 (length (a .octets .now)) (a .words .now) (omega arith) (omega arith) (c .least .result) (c .least .ensures)
+    let s = c .before .before .before in
+    let a = s .args in
+    groups-places (a .b) 8 (4 / a .b * a .b) (4 / a .b * 8) (length (a .octets .now)) (a .words .now) (s .pre .0) (len-some (a .b) (s .pre .0) (s .pre .1)) (size-positive (a .b) (s .pre .0) (s .pre .1)) (group-bits (a .b) (s .pre .0) (s .pre .1)) (c .least .result) (c .least .ensures)
 
-numbers : (c : tie.After-least) → c .least .result * 8 ≤ length (c .before .before .before .args .words .now)
+numbers : (c : tie.After-least) → c .least .result * (4 / c .before .before .before .args .b * 8) ≤ length (c .before .before .before .args .words .now)
 numbers c =
-    let a = c .before .before .before .args in
-    groups-numbers (a .b) 8 (length (a .octets .now)) (a .words .now) (omega arith) (omega arith) (c .least .result) (c .least .ensures)
+    let s = c .before .before .before in
+    let a = s .args in
+    groups-numbers (a .b) 8 (4 / a .b * a .b) (4 / a .b * 8) (length (a .octets .now)) (a .words .now) (s .pre .0) (len-some (a .b) (s .pre .0) (s .pre .1)) (size-positive (a .b) (s .pre .0) (s .pre .1)) (group-bits (a .b) (s .pre .0) (s .pre .1)) (c .least .result) (c .least .ensures)
 
 -- the octets after the groups
 start : (c : tie.After-pack-groups)
-    → c .before .before .least .result * c .before .before .before .before .before .args .b ≤ length (c .pack-groups .last .1 .1 .1 .0)
+    → c .before .before .least .result * (4 / c .before .before .before .before .before .args .b * c .before .before .before .before .before .args .b) ≤ length (c .pack-groups .last .1 .1 .1 .0)
 start c = rw (c .pack-groups .kept .1 .1 .1 .0) (places (c .before .before))
 
 end : (c : tie.After-gather)
     → c .before .before .before .before .before .before .before .before .least .result
-    * c .before .before .before .before .before .before .before .before .before .before .before .args .b
+    * (4 / c .before .before .before .before .before .before .before .before .before .before .before .args .b * c .before .before .before .before .before .before .before .before .before .before .before .args .b)
     + c .before .before .least3 .result
     ≤ length (c .before .before .before .before .before .before .pack-groups .last .1 .1 .1 .0)
 end c = part-end _ (start (c .before .before .before .before .before .before)) (c .before .before .least3 .ensures)
@@ -44,13 +67,13 @@ pack-groups-requires : tie.Need-pack-groups-requires
 pack-groups-requires c κs = (omega arith, omega arith, places (c .before), numbers (c .before), c .before .before .before .before .pre .2)
 
 mul-at : tie.Need-mul-at
-mul-at c = search needs
+mul-at c = record { fits = lt-of-le-of-lt (numbers (c .before .before .before .before)) (omega arith) }
 
 mul-from : tie.Need-mul-from
 mul-from c = record { fits = lt-of-le-of-lt (places (c .before .before .before .before)) (omega arith) }
 
 sub-least : tie.Need-sub-least
-sub-least c = search needs
+sub-least c = numbers (c .before .before .before .before)
 
 least-requires-2 : tie.Need-least-requires-2
 least-requires-2 c κs = search needs
@@ -62,10 +85,15 @@ least-requires-3 : tie.Need-least-requires-3
 least-requires-3 c κs = search needs
 
 gather-requires : tie.Need-gather-requires
-gather-requires c κs = search needs
+gather-requires c κs =
+    let s = c .before .before .before .before .before .before .before .before .before .before in
+    let count = c .before .before .least2 in
+    (s .pre .0, rest-narrow (s .args .b) (s .pre .0) (s .pre .1) (count .result) _ (count .ensures), part-end _ (numbers (c .before .before .before .before .before .before .before)) (count .ensures), s .pre .2)
 
 store-requires : tie.Need-store-requires
-store-requires c κs = (omega arith, end c)
+store-requires c κs =
+    let s = c .before .before .before .before .before .before .before .before .before .before .before in
+    (omega (arith, len-small (s .args .b) (s .pre .0) (s .pre .1)), end c)
 
 add-clear-octets : tie.Need-add-clear-octets
 add-clear-octets c = record { fits = lt-of-le-of-lt (end (c .before .before .before .before)) (omega arith) }
@@ -82,7 +110,8 @@ returns c =
     let s = c .before .before .before .before .before .before .before .before .before .before .before .before .before .before .before .before .before .before in
     let first = c .before .before .before .before .before .before .before .before .before .before .before .before .before .pack-groups in
     let last = c .before .before .before .before .before .before .store in
-    parts-whole (s .args .b) 8 (length (s .args .octets .now)) (s .args .words .now) (omega arith) (omega arith)
+    parts-whole (s .args .b) 8 (4 / s .args .b * s .args .b) (4 / s .args .b * 8) (length (s .args .octets .now)) (s .args .words .now)
+    (s .pre .0) (len-some (s .args .b) (s .pre .0) (s .pre .1)) (size-positive (s .args .b) (s .pre .0) (s .pre .1)) (group-bits (s .args .b) (s .pre .0) (s .pre .1))
     (c .before .before .before .before .before .before .before .before .before .before .before .before .before .before .before .least .result) (c .before .before .before .before .before .before .before .before .before .before .before .before .before .before .before .least .ensures) (coefficientsFit-below _ (s .args .words .now) (s .pre .2))
     (c .before .before .before .before .before .before .before .before .before .least3 .result) (c .before .before .before .before .before .before .before .before .before .before .least2 .result) (rw (first .kept .1 .1 .1 .0) at (c .before .before .before .before .before .before .before .before .before .least3 .ensures)) (c .before .before .before .before .before .before .before .before .before .before .least2 .ensures)
     (first .last .1 .1 .1 .0) (last .last .0) (c .before .before .clear-octets .last .0)
@@ -94,7 +123,11 @@ pub pack-spec : {M : Type 1} → statement M
 pack-spec =
     tie.close
     (tie.spec
+    div-many
+    mul-size
+    mul-len
     div-least
+    div-least-2
     least-requires
     pack-groups-requires
     mul-at

@@ -1,4 +1,4 @@
--- `packing::pack_groups` calls one loop, at the b that its tests found.
+-- `packing::pack_groups` calls one loop, at the b that its tests found and with as many coefficients as 32 bits hold.
 -- Assumes nothing.
 use mathlib.Core.Path.{_≡_}
 use native.Mathlib.Omega.{arith}
@@ -10,7 +10,8 @@ pack-groups-by-requires : tie.Need-pack-groups-by-requires
 pack-groups-by-requires c κs =
     let s = c .before .before .before .before in
     let e : s .args .b ≡ 1 = omega arith in
-    rw e at (s .pre)
+    let pre = rw e at (s .pre) in
+    (omega arith, omega arith, omega arith, pre .2, pre .3, pre .4)
 
 same-length : tie.Need-same-length
 same-length c = search needs
@@ -24,7 +25,8 @@ pack-groups-by-requires-2 : tie.Need-pack-groups-by-requires-2
 pack-groups-by-requires-2 c κs =
     let s = c .before .before .before .before .before in
     let e : s .args .b ≡ 2 = omega arith in
-    rw e at (s .pre)
+    let pre = rw e at (s .pre) in
+    (omega arith, omega arith, omega arith, pre .2, pre .3, pre .4)
 
 same-length-2 : tie.Need-same-length-2
 same-length-2 c = search needs
@@ -38,7 +40,8 @@ pack-groups-by-requires-3 : tie.Need-pack-groups-by-requires-3
 pack-groups-by-requires-3 c κs =
     let s = c .before .before .before .before .before .before in
     let e : s .args .b ≡ 3 = omega arith in
-    rw e at (s .pre)
+    let pre = rw e at (s .pre) in
+    (omega arith, omega arith, omega arith, pre .2, pre .3, pre .4)
 
 same-length-3 : tie.Need-same-length-3
 same-length-3 c = search needs
@@ -52,7 +55,8 @@ pack-groups-by-requires-4 : tie.Need-pack-groups-by-requires-4
 pack-groups-by-requires-4 c κs =
     let s = c .before .before .before .before .before .before in
     let e : s .args .b ≡ 4 = omega arith in
-    rw e at (s .pre)
+    let pre = rw e at (s .pre) in
+    (omega arith, omega arith, omega arith, pre .2, pre .3, pre .4)
 
 same-length-4 : tie.Need-same-length-4
 same-length-4 c = search needs

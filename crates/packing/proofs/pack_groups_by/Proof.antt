@@ -1,48 +1,61 @@
--- `packing::pack_groups_by` is right because a turn puts the b octets of 8 coefficients behind those of the groups before.
+-- `packing::pack_groups_by` is right because a turn puts the octets of up to 64 groups behind those of the groups before.
 -- Assumes nothing.
-use Prim.Native.Nat.{_-_, _*_, _≤_}
-use mathlib.Core.Path.{_≡_, refl}
+use Prim.Native.Nat.{_+_, _-_, _*_, _≤_}
+use mathlib.Core.Path.{_≡_, refl, sym, _∙_}
 use native.Mathlib.Nat.{zero-mul}
 use native.Mathlib.Omega.{arith}
 use lib.ListN.{length, take}
 use Rattle.definitions.specs.Sequences.{tabulate}
 use Rattle.definitions.specs.Octets.{regrouped, packed}
 use Rattle.definitions.proofs.Octets.{coefficientsFit-below}
-use Rattle.octets.proofs.Laws.{place-end, place-fits}
-use Rattle.packing.proofs.Fields.{take-stored-fields, group-step}
+use Rattle.packing.specs.Lanes.{laneNumber}
+use Rattle.packing.proofs.Lanes.{groups-step, groups-end, number-fits}
 use Rattle.packing.proofs.pack_groups_by.Statement.{statement}
 use Rattle.packing.proofs.pack_groups_by.Tie as tie
 
 abbrev Inv-loop : tie.InvT-loop
-Inv-loop words b groups octets₀ g₀ octets g =
-    (g ≤ groups) × (length octets ≡ length octets₀) × (take (g * b) octets ≡ packed b (g * b) words)
+Inv-loop words b many groups octets₀ lanes₀ g₀ octets lanes g =
+    (g ≤ groups) × (length octets ≡ length octets₀) × (length lanes ≡ 256) × (take (g * (many * b)) octets ≡ packed b (g * (many * b)) words)
 
 abbrev μ-loop : tie.MeasureT-loop
-μ-loop words b groups octets₀ g₀ octets g = groups - g
+μ-loop words b many groups octets₀ lanes₀ g₀ octets lanes g = groups - g
 
 loop-holds : tie.Need-loop-holds Inv-loop μ-loop
 unfolding packed regrouped tabulate
-loop-holds c = let none = zero-mul (c .before .before .args .b) in (omega arith, refl, rw none)
+loop-holds c =
+    let a = c .before .before .args in
+    let none = zero-mul (a .many * a .b) in
+    (omega arith, refl, refl, rw none)
 
-room : (c : tie.After-store-arg Inv-loop μ-loop)
-    → c .before .before .before .before .before .args .groups * c .before .before .before .before .before .args .b ≤ length (c .before .before .loop .octets)
-room c = rw (c .before .before .loop .inv .1) (c .before .before .before .before .before .pre .2)
+sub-least : tie.Need-sub-least Inv-loop μ-loop
+sub-least c = omega arith
 
-mul-store : tie.Need-mul-store Inv-loop μ-loop
-mul-store c =
-    let s = c .before .before .before .before .before in
-    record { fits = place-fits (c .before .before .loop .g) (s .args .b) (c .before .loop-test .taken) (room c) (omega arith) }
+least-requires : tie.Need-least-requires Inv-loop μ-loop
+least-requires c κs = tt
 
-mul-gather : tie.Need-mul-gather Inv-loop μ-loop
-mul-gather c = omega arith
+slice-aggregate-collect-groups : tie.Need-slice-aggregate-collect-groups Inv-loop μ-loop
+slice-aggregate-collect-groups c = sym (c .before .before .before .loop .inv .2)
 
-gather-requires : tie.Need-gather-requires Inv-loop μ-loop
-gather-requires c κs = (omega arith, omega arith, omega arith, omega arith, c .before .before .before .before .before .pre .4)
-
-store-requires : tie.Need-store-requires Inv-loop μ-loop
-store-requires c κs =
+collect-groups-requires : tie.Need-collect-groups-requires Inv-loop μ-loop
+collect-groups-requires c κs =
     let s = c .before .before .before .before .before .before in
-    (omega arith, place-end (c .before .before .before .loop .g) (s .args .b) (c .before .before .loop-test .taken) (room (c .before)))
+    let l = c .before .before .before .loop in
+    let end = groups-end (l .g) (c .before .least .result) (s .args .groups) (s .args .many * 8) (c .before .before .loop-test .taken) (c .before .least .ensures) (s .pre .4) in
+    (s .pre .0, s .pre .1, s .pre .2, end, omega arith, s .pre .5)
+
+slice-aggregate-join-groups : tie.Need-slice-aggregate-join-groups Inv-loop μ-loop
+slice-aggregate-join-groups c = sym (c .before .before .collect-groups .kept .1 .1 .1 .1 .1 .0 ∙ c .before .before .before .before .before .before .loop .inv .2)
+
+join-groups-requires : tie.Need-join-groups-requires Inv-loop μ-loop
+join-groups-requires c κs =
+    let s = c .before .before .before .before .before .before .before .before .before .before in
+    let l = c .before .before .before .before .before .before .before .loop in
+    let some = c .before .before .before .before .before .least in
+    let full = c .before .before .before .collect-groups .kept .1 .1 .1 .1 .1 .0 ∙ l .inv .2 in
+    let end = groups-end (l .g) (some .result) (s .args .groups) (s .args .many * s .args .b) {total = length (l .octets)} (c .before .before .before .before .before .before .loop-test .taken) (some .ensures) (rw (l .inv .1) (s .pre .3)) in (
+      (s .pre .0, s .pre .1, s .pre .2, end, rw full (omega arith)),
+      λ g inside. number-fits (s .args .words .now) (s .args .b) (s .args .many) (l .g + g) (s .pre .5) (s .pre .2) (c .before .before .before .collect-groups .ensures g inside),
+    )
 
 add-g : tie.Need-add-g Inv-loop μ-loop
 add-g c = omega arith
@@ -53,15 +66,16 @@ loop-less c = omega arith
 loop-again : tie.Need-loop-again Inv-loop μ-loop
 unfolding packed
 loop-again c =
-    let s = c .before .before .before .before .before .before .before .before .before in
-    let l = c .before .before .before .before .before .before .loop in
-    let x = c .before .before .before .gather .result in
-    let put = take-stored-fields (l .g * s .args .b) (s .args .b) x (l .octets) (c .before .before .store .last .0)
-    (place-end (l .g) (s .args .b) (c .before .before .before .before .before .loop-test .taken) (room (c .before .before .before .before))) (c .before .before .store .ensures) in (
+    let s = c .before .before .before .before .before .before .before .before .before .before .before .before .before in
+    let l = c .before .before .before .before .before .before .before .before .before .before .loop in
+    let some = c .before .before .before .before .before .before .before .before .least in
+    let sums = c .before .before .before .before .before .before .collect-groups in
+    let octets = c .before .before .join-groups in (
       omega arith,
-      omega arith,
-      group-step (s .args .b) 8 (s .args .words .now) (l .octets) (c .before .before .store .last .0) (l .g) (omega arith) (coefficientsFit-below _ (s .args .words .now) (s .pre .4)) (l .inv .2)
-          (c .before .before .before .gather .ensures) put,
+      octets .kept .1 .1 .1 .1 .1 .0 ∙ l .inv .1,
+      sums .kept .1 .1 .1 .1 .1 .0 ∙ l .inv .2,
+      groups-step (s .args .b) (s .args .many * s .args .b) (s .args .many * 8) (s .args .words .now) (l .octets) (octets .last .1 .1 .1 .1 .1 .0) (l .g) (some .result)
+          (laneNumber (s .args .b) (sums .last .1 .1 .1 .1 .1 .0)) (s .pre .0) (omega arith) (coefficientsFit-below _ (s .args .words .now) (s .pre .5)) (sums .ensures) (l .inv .3) (octets .ensures),
     )
 
 same-length : tie.Need-same-length Inv-loop μ-loop
@@ -71,7 +85,7 @@ returns : tie.Need-returns Inv-loop μ-loop
 returns c =
     let l = c .before .loop in
     let end : c .before .before .before .before .args .groups ≡ l .g = omega arith in
-    rw end (l .inv .2)
+    rw end (l .inv .3)
 
 pub pack-groups-by-spec : {M : Type 1} → statement M
 pack-groups-by-spec =
@@ -80,10 +94,12 @@ pack-groups-by-spec =
     Inv-loop
     μ-loop
     loop-holds
-    mul-store
-    mul-gather
-    gather-requires
-    store-requires
+    sub-least
+    least-requires
+    slice-aggregate-collect-groups
+    collect-groups-requires
+    slice-aggregate-join-groups
+    join-groups-requires
     add-g
     loop-less
     loop-again

@@ -10,7 +10,7 @@ use Rattle.definitions.specs.Parameters.{qlen, monomialCount}
 use Rattle.definitions.specs.Calls.{secretPadded, elementsFit}
 use Rattle.definitions.proofs.Parameters.{accepted-set, modulus-positive, modulus-word, qlen-least, qlen-most}
 use Rattle.parameters.specs.Answers.{setFrom}
-use Rattle.octets.proofs.Judged.{judged-fits, judged-refused}
+use Rattle.judging.proofs.Judged.{judged-fits, judged-refused}
 use Rattle.secrets.specs.Secrets.{Exact, Unpacked}
 use Rattle.secrets.proofs.Laws.{value-sizes, value-octets, value-coefficients, value-modulus, unpacked-x, unpacked-y, valued-padding, valued-coefficient, valued-accepted}
 use Rattle.secrets.proofs.value.Statement.{statement}

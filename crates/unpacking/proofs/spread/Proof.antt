@@ -16,24 +16,26 @@ use Rattle.unpacking.proofs.spread.Statement.{statement}
 use Rattle.unpacking.proofs.spread.Tie as tie
 
 abbrev Inv-loop : tie.InvT-loop
-Inv-loop words₀ at count b x l k₀ words k =
+Inv-loop words₀ at count b x modulus k₀ words k =
     (k ≤ count) × (length words ≡ length words₀) × (take (at + k) words ≡ take at words₀ ++ fieldsOf b k x)
 
 abbrev μ-loop : tie.MeasureT-loop
-μ-loop words₀ at count b x l k₀ words k = count - k
+μ-loop words₀ at count b x modulus k₀ words k = count - k
 
-cast-l : tie.Need-cast-l Inv-loop μ-loop
-cast-l c = omega arith
+cast-modulus : tie.Need-cast-modulus Inv-loop μ-loop
+cast-modulus c = omega arith
 
-shl-l : tie.Need-shl-l Inv-loop μ-loop
-shl-l c = omega arith
+shl-modulus : tie.Need-shl-modulus Inv-loop μ-loop
+shl-modulus c = omega arith
 
 loop-holds : tie.Need-loop-holds Inv-loop μ-loop
 unfolding fieldsOf tabulate
 loop-holds c = let a = c .args in (omega arith, refl, rw (add-zero (a .at)) (sym (append-nil (take (a .at) (a .words .now)))))
 
 narrow : (c : tie.In-loop Inv-loop μ-loop) → c .before .loop .k * c .before .before .args .b < 32
-narrow c = shift-below (c .before .loop .k) (c .before .before .args .b) (omega arith) (omega arith)
+narrow c =
+    let s = c .before .before in
+    shift-below (c .before .loop .k) (s .args .count) (s .args .b) (omega arith) (s .pre .2) (omega arith)
 
 mul-words : tie.Need-mul-words Inv-loop μ-loop
 mul-words c = record { fits = lt-of-lt-of-le (narrow c) (lit≤ tt) }
@@ -88,8 +90,8 @@ spread-spec =
     (tie.spec
     Inv-loop
     μ-loop
-    cast-l
-    shl-l
+    cast-modulus
+    shl-modulus
     loop-holds
     mul-words
     cast-words

@@ -1,43 +1,80 @@
 -- `unpacking::unpack` is right because whole groups, the last one and zeros are all that there is.
 -- Assumes nothing.
-use Prim.Native.Nat.{_*_, _≤_}
+use Prim.Native.Nat.{_+_, _*_, _/_, _≤_, _<_}
 use mathlib.Core.Path.{_∙_}
 use native.Mathlib.Nat.{lt-of-le-of-lt}
 use native.Mathlib.Omega.{arith}
+use lib.Dec.{lit≤}
 use lib.ListN.{length}
 use Rattle.definitions.specs.Octets.{unpacked}
 use Rattle.packing.proofs.Fields.{numberOf-value, groups-places, groups-numbers, part-end, parts-whole}
 use borrow.Author.Needs.{needs}
+use Rattle.unpacking.proofs.Lanes.{many-pos, many-few, many-least, many-octets, many-bits, last-narrow}
 use Rattle.unpacking.proofs.unpack.Statement.{statement}
 use Rattle.unpacking.proofs.unpack.Tie as tie
 
+many : (c : tie.After-slice-known) → 1 ≤ 4 / c .before .before .args .b
+many c = let s = c .before .before in many-pos (s .args .b) (s .pre .0) (s .pre .1)
+
+few : (c : tie.After-slice-known) → 4 / c .before .before .args .b ≤ 4
+few c = let s = c .before .before in many-few (s .args .b) (4 / s .args .b) (s .pre .0) (many-least (s .args .b))
+
+size : (c : tie.After-slice-known) → 0 < 4 / c .before .before .args .b * 8
+size c = omega (arith, many c)
+
+len : (c : tie.After-slice-known) → 0 < 4 / c .before .before .args .b * c .before .before .args .b
+len c = let s = c .before .before in many-octets (s .args .b) (s .pre .0) (s .pre .1)
+
+div-many : tie.Need-div-many
+div-many c = omega arith
+
+mul-size : tie.Need-mul-size
+mul-size c = omega (arith, few c)
+
+mul-len : tie.Need-mul-len
+mul-len c = omega (arith, many-least (c .before .before .args .b))
+
 div-least : tie.Need-div-least
-div-least c = search needs
+div-least c = size c
+
+div-least-2 : tie.Need-div-least-2
+div-least-2 c = len c
 
 least-requires : tie.Need-least-requires
 least-requires c κs = search needs
 
-places : (c : tie.After-least) → c .least .result * 8 ≤ length (c .before .before .before .args .words .now)
+places : (c : tie.After-least) → c .least .result * (4 / c .before .before .before .args .b * 8) ≤ length (c .before .before .before .args .words .now)
 places c =
     let a = c .before .before .before .args in
-    groups-places 8 (a .b) (length (a .words .now)) (a .octets .now) (omega arith) (omega arith) (c .least .result) (c .least .ensures)
+    groups-places 8 (a .b) (4 / a .b * 8) (4 / a .b * a .b) (length (a .words .now)) (a .octets .now) (lit≤ tt) (size (c .before)) (len (c .before)) (many-bits (a .b) (4 / a .b)) (c .least .result)
+    (c .least .ensures)
 
-numbers : (c : tie.After-least) → c .least .result * c .before .before .before .args .b ≤ length (c .before .before .before .args .octets .now)
+numbers : (c : tie.After-least) → c .least .result * (4 / c .before .before .before .args .b * c .before .before .before .args .b) ≤ length (c .before .before .before .args .octets .now)
 numbers c =
     let a = c .before .before .before .args in
-    groups-numbers 8 (a .b) (length (a .words .now)) (a .octets .now) (omega arith) (omega arith) (c .least .result) (c .least .ensures)
+    groups-numbers 8 (a .b) (4 / a .b * 8) (4 / a .b * a .b) (length (a .words .now)) (a .octets .now) (lit≤ tt) (size (c .before)) (len (c .before)) (many-bits (a .b) (4 / a .b)) (c .least .result)
+    (c .least .ensures)
+
+-- the words after the groups
+start : (c : tie.After-unpack-groups)
+    → c .before .before .least .result * (4 / c .before .before .before .before .before .args .b * 8) ≤ length (c .unpack-groups .last .1 .1 .1 .0)
+start c = rw (c .unpack-groups .kept .1 .1 .1 .0) (places (c .before .before))
+
+end : (c : tie.After-number)
+    → c .before .before .before .before .before .before .before .before .least .result * (4 / c .before .before .before .before .before .before .before .before .before .before .before .args .b * 8) + c .before .before .before .least2 .result ≤ length (c .before .before .before .before .before .before .unpack-groups .last .1 .1 .1 .0)
+end c = part-end _ (start (c .before .before .before .before .before .before)) (c .before .before .before .least2 .ensures)
 
 unpack-groups-requires : tie.Need-unpack-groups-requires
-unpack-groups-requires c κs = (omega arith, omega arith, numbers (c .before), places (c .before))
+unpack-groups-requires c κs = (c .before .before .before .before .pre .0, c .before .before .before .before .pre .1, numbers (c .before), places (c .before))
 
 mul-at : tie.Need-mul-at
-mul-at c = search needs
+mul-at c = record { fits = lt-of-le-of-lt (places (c .before .before .before .before)) (omega arith) }
 
 mul-from : tie.Need-mul-from
 mul-from c = record { fits = lt-of-le-of-lt (numbers (c .before .before .before .before)) (c .before .before .before .before .before .before .before .good .0 .0) }
 
 sub-least : tie.Need-sub-least
-sub-least c = search needs
+sub-least c = start (c .before .before)
 
 least-requires-2 : tie.Need-least-requires-2
 least-requires-2 c κs = search needs
@@ -49,16 +86,20 @@ least-requires-3 : tie.Need-least-requires-3
 least-requires-3 c κs = search needs
 
 number-requires : tie.Need-number-requires
-number-requires c κs = (omega arith, part-end (c .before .before .before .before .before .before .before .before .before .before .args .b) (numbers (c .before .before .before .before .before .before .before)) (c .before .least3 .ensures))
+number-requires c κs =
+    let a = c .before .before .before .before .before .before .before .before .before .before .args in
+    (omega (arith, many-least (a .b)), part-end (4 / a .b * a .b) (numbers (c .before .before .before .before .before .before .before)) (c .before .least3 .ensures))
 
 spread-requires : tie.Need-spread-requires
-spread-requires c κs = search needs
+spread-requires c κs =
+    let s = c .before .before .before .before .before .before .before .before .before .before .before in
+    (s .pre .0, s .pre .1, last-narrow (s .args .b) (4 / s .args .b) _ (many-least (s .args .b)) (c .before .before .before .least2 .ensures), end c)
 
 add-clear-words : tie.Need-add-clear-words
-add-clear-words c = search needs
+add-clear-words c = record { fits = lt-of-le-of-lt (end (c .before .before .before .before)) (omega arith) }
 
 clear-words-requires : tie.Need-clear-words-requires
-clear-words-requires c κs = search needs
+clear-words-requires c κs = rw (c .before .before .before .spread .kept .0) (end (c .before .before .before .before))
 
 same-length : tie.Need-same-length
 same-length c = search needs
@@ -67,10 +108,10 @@ returns : tie.Need-returns
 unfolding unpacked
 returns c =
     let a = c .before .before .before .before .before .before .before .before .before .before .before .before .before .before .before .before .before .before .args in
-    let n = length (a .words .now) in
     let first = c .before .before .before .before .before .before .before .before .before .before .before .before .before .unpack-groups in
     let last = c .before .before .before .before .before .before .spread in
-    parts-whole 8 (a .b) n (a .octets .now) (omega arith) (omega arith) (c .before .before .before .before .before .before .before .before .before .before .before .before .before .before .before .least .result) (c .before .before .before .before .before .before .before .before .before .before .before .before .before .before .before .least .ensures)
+    parts-whole 8 (a .b) (4 / a .b * 8) (4 / a .b * a .b) (length (a .words .now)) (a .octets .now) (lit≤ tt) (size (c .before .before .before .before .before .before .before .before .before .before .before .before .before .before .before .before)) (len (c .before .before .before .before .before .before .before .before .before .before .before .before .before .before .before .before)) (many-bits (a .b) (4 / a .b))
+    (c .before .before .before .before .before .before .before .before .before .before .before .before .before .before .before .least .result) (c .before .before .before .before .before .before .before .before .before .before .before .before .before .before .before .least .ensures)
     (λ i h. c .before .before .before .before .before .before .before .before .before .before .before .before .before .before .before .before .before .shared-slice-known .given i .fits) (c .before .before .before .before .before .before .before .before .before .before .least2 .result) (c .before .before .before .before .before .before .before .before .before .least3 .result)
     (rw (first .kept .1 .1 .1 .0) at (c .before .before .before .before .before .before .before .before .before .before .least2 .ensures)) (c .before .before .before .before .before .before .before .before .before .least3 .ensures)
     (first .last .1 .1 .1 .0) (last .last .0) (c .before .before .clear-words .last .0)
@@ -81,7 +122,11 @@ pub unpack-spec : {M : Type 1} → statement M
 unpack-spec =
     tie.close
     (tie.spec
+    div-many
+    mul-size
+    mul-len
     div-least
+    div-least-2
     least-requires
     unpack-groups-requires
     mul-at

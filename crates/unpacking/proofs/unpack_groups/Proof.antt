@@ -2,6 +2,7 @@
 -- Assumes nothing.
 use mathlib.Core.Path.{_≡_}
 use native.Mathlib.Omega.{arith}
+use lib.Dec.{lit≤}
 use borrow.Author.Needs.{needs}
 use Rattle.unpacking.proofs.unpack_groups.Statement.{statement}
 use Rattle.unpacking.proofs.unpack_groups.Tie as tie
@@ -10,7 +11,7 @@ unpack-groups-by-requires : tie.Need-unpack-groups-by-requires
 unpack-groups-by-requires c κs =
     let s = c .before .before .before .before in
     let e : s .args .b ≡ 1 = omega arith in
-    rw e at (s .pre)
+    (lit≤ tt, lit≤ tt, lit≤ tt, rw e at (s .pre .2), rw e at (s .pre .3))
 
 same-length : tie.Need-same-length
 same-length c = search needs
@@ -24,7 +25,7 @@ unpack-groups-by-requires-2 : tie.Need-unpack-groups-by-requires-2
 unpack-groups-by-requires-2 c κs =
     let s = c .before .before .before .before .before in
     let e : s .args .b ≡ 2 = omega arith in
-    rw e at (s .pre)
+    (lit≤ tt, lit≤ tt, lit≤ tt, rw e at (s .pre .2), rw e at (s .pre .3))
 
 same-length-2 : tie.Need-same-length-2
 same-length-2 c = search needs
@@ -38,7 +39,7 @@ unpack-groups-by-requires-3 : tie.Need-unpack-groups-by-requires-3
 unpack-groups-by-requires-3 c κs =
     let s = c .before .before .before .before .before .before in
     let e : s .args .b ≡ 3 = omega arith in
-    rw e at (s .pre)
+    (lit≤ tt, lit≤ tt, lit≤ tt, rw e at (s .pre .2), rw e at (s .pre .3))
 
 same-length-3 : tie.Need-same-length-3
 same-length-3 c = search needs
@@ -52,7 +53,7 @@ unpack-groups-by-requires-4 : tie.Need-unpack-groups-by-requires-4
 unpack-groups-by-requires-4 c κs =
     let s = c .before .before .before .before .before .before in
     let e : s .args .b ≡ 4 = omega arith in
-    rw e at (s .pre)
+    (lit≤ tt, lit≤ tt, lit≤ tt, rw e at (s .pre .2), rw e at (s .pre .3))
 
 same-length-4 : tie.Need-same-length-4
 same-length-4 c = search needs

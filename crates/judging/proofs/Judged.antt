@@ -1,0 +1,47 @@
+-- Why the judge's number tells whether a key's or a ciphertext's coefficients fit: octets of the exact length are the coefficients of its elements.
+--
+--   fitNumber-fits    0 of a list: each is below q
+--   judged-fits       0 of octets: each is below q
+--   judged-refused    any other number: some is not
+-- Assumes nothing.
+use Prim.Native.Nat.{ℕ, _/_}
+use mathlib.Core.Path.{_≡_, refl, sym, _∙_}
+use mathlib.Core.Bool.{Bool, true, false, not}
+use mathlib.Core.List.{List, [], _∷_}
+use borrow.Author.Tests.{not-false}
+use lib.Dec.{lit<}
+use lib.ListN.{length}
+use Rattle.definitions.specs.Refusals.{firstRefusal, refuse}
+use Rattle.definitions.specs.Parameters.{Parameters, qlen, elementsLength}
+use Rattle.definitions.specs.Octets.{decoded, coefficientsFit}
+use Rattle.definitions.specs.Calls.{decodedElements, elementsFit}
+use Rattle.definitions.proofs.Refusals.{firstRefusal-passed, firstRefusal-last}
+use Rattle.definitions.proofs.Parameters.{Accepted, elementsLength-count}
+use Rattle.judging.specs.Reading.{fitNumber}
+
+pub fitNumber-fits : (q : ℕ) (xs : List ℕ) → fitNumber q xs ≡ 0 → coefficientsFit q xs ≡ true
+unfolding fitNumber
+fitNumber-fits q xs e = not-false _ (firstRefusal-passed 8 _ [] (lit< tt) e .0)
+
+fitNumber-refused : (q : ℕ) (xs : List ℕ) → (fitNumber q xs ≡ 0 → ⊥) → coefficientsFit q xs ≡ false
+unfolding fitNumber
+fitNumber-refused q xs e = go (coefficientsFit q xs) e
+  where
+    go : (t : Bool) → (firstRefusal (refuse 8 (not t) ∷ []) ≡ 0 → ⊥) → t ≡ false
+    go true e = absurd (e (firstRefusal-last 8 false refl))
+    go false e = refl
+
+module _ (p : Parameters) (set : Accepted p) (elements : ℕ) (octets : List ℕ) (exact : length octets ≡ elementsLength p elements) {len r : ℕ} (e : len ≡ qlen (p .q))
+    (number : r ≡ fitNumber (p .q) (decoded len (length octets / len) octets))
+  where
+    judged : r ≡ fitNumber (p .q) (decodedElements p elements octets)
+    unfolding decodedElements
+    judged = rw (e, exact, elementsLength-count p set elements) at number
+
+    pub judged-fits : r ≡ 0 → elementsFit p elements octets ≡ true
+    unfolding elementsFit
+    judged-fits z = fitNumber-fits (p .q) (decodedElements p elements octets) (sym judged ∙ z)
+
+    pub judged-refused : (r ≡ 0 → ⊥) → elementsFit p elements octets ≡ false
+    unfolding elementsFit
+    judged-refused z = fitNumber-refused (p .q) (decodedElements p elements octets) (λ f. z (judged ∙ f))

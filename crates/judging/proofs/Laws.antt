@@ -1,0 +1,306 @@
+-- Why judging part by part gives the answer for all: a list fits just where each of its parts does.
+--
+--   coefficientsFit-..       of a list and one more; of two lists end to end
+--   fitNumber-..             the answer for some coefficients more that fit; 8 where some part does not fit
+--   reading-.., readings-..  what reading coefficients tells, and that its number is the answer for them
+--   coefficientsFrom, part-..  several coefficients of octets; of words
+--   places-..                where the octets of several coefficients lie
+--   large-..                 the mark that a loop over several keeps: 0 where all so far fit, otherwise 1
+--   bits-..                  the bits set in any of some words are below a power of two just where all of the words are
+--   shifted                  that power, made by a shift
+-- Assumes nothing.
+use Prim.Native.Nat.{ℕ, suc, _+_, _-_, _*_, _%_, _^_, _≤_, _<_}
+use mathlib.Core.Path.{_≡_, refl, sym, ap, _∙_}
+use mathlib.Core.Bool.{Bool, true, false, _&&_, not}
+use mathlib.Core.List.{List, [], _∷_, _++_, append-assoc, append-nil}
+use native.Mathlib.Nat.{mul-le-mul-left, mul-le-mul-right, le-trans, add-zero, mod-eq-of-lt}
+use native.Mathlib.Numerals.{add-one}
+use native.Mathlib.Decide.{decLt}
+use native.Mathlib.Omega.{arith}
+use lib.Dec.{ltb}
+use lib.ListN.{length, getD, take, drop, length-append, length-drop, take-append-drop, List·getD-append}
+use lib.Seq.{take-suc, getD-drop, take-add, getD-append-seam}
+use lib.Pow.{pow-pos, pow-mono}
+use lib.Bits.{bitOr, or-lt, or-add-and, and-le-r, or-comm}
+use borrow.Author.Tests.{lt-ltb, le-ltb}
+use Rattle.definitions.specs.Sequences.{every, tabulate}
+use Rattle.definitions.specs.Refusals.{refuse, firstRefusal}
+use Rattle.definitions.specs.Octets.{coefficientAt, decoded, coefficientsFit}
+use Rattle.definitions.proofs.Sums.{every-cong}
+use Rattle.definitions.proofs.Filling.{tabulate-snoc, tabulate-add}
+use Rattle.judging.specs.Reading.{picked, readingOf, readingNumber, pickedOf, readingsOf, readingsNumber, fitNumber}
+use Rattle.judging.proofs.Judged.{fitNumber-fits}
+use Rattle.judging.specs.declared.Coefficient.the-variants.{Below, TooLarge}
+use Rattle.judging.specs.declared.Coefficients.the-variants as several
+
+and-true : (t : Bool) → (t && true) ≡ t
+and-true true = refl
+and-true false = refl
+
+and-false : (t : Bool) → (t && false) ≡ false
+and-false true = refl
+and-false false = refl
+
+and-assoc : (a b c : Bool) → ((a && b) && c) ≡ (a && (b && c))
+and-assoc true b c = refl
+and-assoc false b c = refl
+
+-- ---- lists that fit
+
+coefficientsFit-snoc : (q : ℕ) (xs : List ℕ) (x : ℕ) → coefficientsFit q (xs ++ (x ∷ [])) ≡ (coefficientsFit q xs && ltb x q)
+unfolding coefficientsFit every
+coefficientsFit-snoc q xs x =
+    let e : length (xs ++ (x ∷ [])) ≡ suc (length xs) = omega (arith, length-append xs (x ∷ [])) in
+    rw (
+      e,
+      getD-append-seam xs x [] 0,
+      every-cong (length xs) {f = λ m. ltb (getD (xs ++ (x ∷ [])) m 0) q} {g = λ m. ltb (getD xs m 0) q} (λ k l. rw (List·getD-append xs (x ∷ []) 0 k l)),
+    )
+
+coefficientsFit-none : (q : ℕ) → coefficientsFit q [] ≡ true
+unfolding coefficientsFit every
+coefficientsFit-none q = refl
+
+coefficientsFit-one : (q x : ℕ) → coefficientsFit q (x ∷ []) ≡ ltb x q
+coefficientsFit-one q x = coefficientsFit-snoc q [] x ∙ rw (coefficientsFit-none q)
+
+coefficientsFit-append : (q : ℕ) (ys xs : List ℕ) → coefficientsFit q (xs ++ ys) ≡ (coefficientsFit q xs && coefficientsFit q ys)
+coefficientsFit-append q [] xs = rw (append-nil xs, coefficientsFit-none q, and-true (coefficientsFit q xs))
+coefficientsFit-append q (y ∷ ys) xs =
+    let first : coefficientsFit q (y ∷ ys) ≡ (ltb y q && coefficientsFit q ys) = coefficientsFit-append q ys (y ∷ []) ∙ rw (coefficientsFit-one q y) in
+    rw (first, ← append-assoc xs (y ∷ []) ys, coefficientsFit-append q ys (xs ++ (y ∷ [])), coefficientsFit-snoc q xs y) (and-assoc (coefficientsFit q xs) (ltb y q) (coefficientsFit q ys))
+
+-- ---- answers
+
+pub fitNumber-zero : (q : ℕ) (xs : List ℕ) → coefficientsFit q xs ≡ true → fitNumber q xs ≡ 0
+unfolding fitNumber firstRefusal
+fitNumber-zero q xs e = rw e
+
+fitNumber-eight : (q : ℕ) (xs : List ℕ) → coefficientsFit q xs ≡ false → fitNumber q xs ≡ 8
+unfolding fitNumber firstRefusal
+fitNumber-eight q xs e = rw e
+
+pub fitNumber-nil : (q : ℕ) → fitNumber q [] ≡ 0
+fitNumber-nil q = fitNumber-zero q [] (coefficientsFit-none q)
+
+module _ (q : ℕ) (xs ys : List ℕ) where
+  fitNumber-more : fitNumber q xs ≡ 0 → coefficientsFit q ys ≡ true → fitNumber q (xs ++ ys) ≡ 0
+  fitNumber-more e f = fitNumber-zero q (xs ++ ys) (coefficientsFit-append q ys xs ∙ rw (fitNumber-fits q xs e, f))
+
+  fitNumber-part : (zs : List ℕ) → coefficientsFit q ys ≡ false → fitNumber q (xs ++ (ys ++ zs)) ≡ 8
+  fitNumber-part zs f =
+      fitNumber-eight q (xs ++ (ys ++ zs)) (coefficientsFit-append q (ys ++ zs) xs ∙ rw (coefficientsFit-append q zs ys, f) (and-false (coefficientsFit q xs)))
+
+-- ---- what reading tells
+
+module _ (q x : ℕ) where
+  pub reading-below : (v : ℕ) → readingOf q x ≡ Below v → coefficientsFit q (x ∷ []) ≡ true
+  reading-below v e = coefficientsFit-one q x ∙ go (ltb x q) e
+    where
+      go : (t : Bool) → picked t x ≡ Below v → t ≡ true
+      go true e = refl
+      go false e = cc
+
+  pub reading-large : readingOf q x ≡ TooLarge → coefficientsFit q (x ∷ []) ≡ false
+  reading-large e = coefficientsFit-one q x ∙ go (ltb x q) e
+    where
+      go : (t : Bool) → picked t x ≡ TooLarge → t ≡ false
+      go true e = cc
+      go false e = refl
+
+  pub reading-number : readingNumber (readingOf q x) ≡ fitNumber q (x ∷ [])
+  unfolding fitNumber firstRefusal
+  reading-number = rw (coefficientsFit-one q x) (go (ltb x q))
+    where
+      go : (t : Bool) → readingNumber (picked t x) ≡ firstRefusal (refuse 8 (not t) ∷ [])
+      go true = refl
+      go false = refl
+
+module _ (q : ℕ) (xs : List ℕ) where
+  pub readings-below : readingsOf q xs ≡ several.Below → coefficientsFit q xs ≡ true
+  readings-below e = go (coefficientsFit q xs) e
+    where
+      go : (t : Bool) → pickedOf t ≡ several.Below → t ≡ true
+      go true e = refl
+      go false e = cc
+
+  pub readings-large : readingsOf q xs ≡ several.TooLarge → coefficientsFit q xs ≡ false
+  readings-large e = go (coefficientsFit q xs) e
+    where
+      go : (t : Bool) → pickedOf t ≡ several.TooLarge → t ≡ false
+      go true e = cc
+      go false e = refl
+
+  pub readings-number : readingsNumber (readingsOf q xs) ≡ fitNumber q xs
+  unfolding fitNumber firstRefusal
+  readings-number = go (coefficientsFit q xs)
+    where
+      go : (t : Bool) → readingsNumber (pickedOf t) ≡ firstRefusal (refuse 8 (not t) ∷ [])
+      go true = refl
+      go false = refl
+
+-- ---- coefficients in octets
+
+abbrev pub coefficientsFrom : ℕ → List ℕ → ℕ → ℕ → List ℕ
+coefficientsFrom qlen octets m k = tabulate k (λ j. coefficientAt qlen octets (m + j))
+
+pub coefficientsFrom-one : (qlen : ℕ) (octets : List ℕ) (m : ℕ) → coefficientsFrom qlen octets m 1 ≡ coefficientAt qlen octets m ∷ []
+unfolding tabulate
+coefficientsFrom-one qlen octets m = rw (add-zero m)
+
+pub coefficientsFrom-snoc : (qlen : ℕ) (octets : List ℕ) (m k : ℕ)
+    → coefficientsFrom qlen octets m (k + 1) ≡ coefficientsFrom qlen octets m k ++ (coefficientAt qlen octets (m + k) ∷ [])
+coefficientsFrom-snoc qlen octets m k = rw (add-one k) (tabulate-snoc k (λ j. coefficientAt qlen octets (m + j)))
+
+pub fitNumber-none : (q qlen : ℕ) (octets : List ℕ) → fitNumber q (decoded qlen 0 octets) ≡ 0
+unfolding decoded tabulate
+fitNumber-none q qlen octets = fitNumber-nil q
+
+module _ (q qlen : ℕ) (octets : List ℕ) (m k : ℕ) where
+  decoded-more : decoded qlen (m + k) octets ≡ decoded qlen m octets ++ coefficientsFrom qlen octets m k
+  unfolding decoded
+  decoded-more = tabulate-add m k (coefficientAt qlen octets)
+
+  pub fitNumber-decoded-more : fitNumber q (decoded qlen m octets) ≡ 0 → coefficientsFit q (coefficientsFrom qlen octets m k) ≡ true
+      → fitNumber q (decoded qlen (m + k) octets) ≡ 0
+  fitNumber-decoded-more e f = rw decoded-more (fitNumber-more q (decoded qlen m octets) (coefficientsFrom qlen octets m k) e f)
+
+  pub fitNumber-decoded-part : (count : ℕ) → m + k ≤ count → coefficientsFit q (coefficientsFrom qlen octets m k) ≡ false
+      → fitNumber q (decoded qlen count octets) ≡ 8
+  unfolding decoded
+  fitNumber-decoded-part count h f =
+      let rest : List ℕ = tabulate (count - (m + k)) (λ j. coefficientAt qlen octets (m + k + j)) in
+      let end : count ≡ m + k + (count - (m + k)) = omega arith in
+      let parts : decoded qlen count octets ≡ decoded qlen m octets ++ (coefficientsFrom qlen octets m k ++ rest) =
+      ap (λ (n : ℕ). tabulate n (coefficientAt qlen octets)) end ∙ tabulate-add (m + k) (count - (m + k)) (coefficientAt qlen octets)
+      ∙ rw decoded-more (append-assoc (decoded qlen m octets) (coefficientsFrom qlen octets m k) rest) in
+      rw parts (fitNumber-part q (decoded qlen m octets) (coefficientsFrom qlen octets m k) rest f)
+
+module _ (q qlen : ℕ) (octets : List ℕ) (m : ℕ) where
+  pub fitNumber-decoded-next : {v : ℕ} → readingOf q (coefficientAt qlen octets m) ≡ Below v → fitNumber q (decoded qlen m octets) ≡ 0
+      → fitNumber q (decoded qlen (m + 1) octets) ≡ 0
+  fitNumber-decoded-next {v} e z =
+      fitNumber-decoded-more q qlen octets m 1 z (rw (coefficientsFrom-one qlen octets m) (reading-below q (coefficientAt qlen octets m) v e))
+
+  pub fitNumber-decoded-large : (count : ℕ) → m < count → readingOf q (coefficientAt qlen octets m) ≡ TooLarge → fitNumber q (decoded qlen count octets) ≡ 8
+  fitNumber-decoded-large count h e =
+      fitNumber-decoded-part q qlen octets m 1 count (omega arith) (rw (coefficientsFrom-one qlen octets m) (reading-large q (coefficientAt qlen octets m) e))
+
+-- where the octets of several coefficients lie: three more follow them, so that each is read as four octets
+pub places-fit : (m qlen count total : ℕ) → m + 67 ≤ count → count * qlen ≤ total → (m + 67) * qlen ≤ total
+places-fit m qlen count total h e = le-trans (mul-le-mul-right qlen h) e
+
+pub places-end : (m k qlen total : ℕ) → k < 64 → 1 ≤ qlen → (m + 67) * qlen ≤ total → (m + k) * qlen + 4 ≤ total
+places-end m k qlen total h least fit =
+    let behind : m + k + 4 ≤ m + 67 = omega arith in
+    let four : 4 * 1 ≤ 4 * qlen = mul-le-mul-left 4 least in
+    omega (arith, mul-le-mul-right qlen behind)
+
+pub places-start : (m k qlen total : ℕ) {bound : ℕ} → k < 64 → 1 ≤ qlen → (m + 67) * qlen ≤ total → total < bound → (m + k) * qlen < bound
+places-start m k qlen total h least fit most = omega (arith, places-end m k qlen total h least fit)
+
+pub places-sum : (m k qlen total : ℕ) {bound : ℕ} → k < 64 → 1 ≤ qlen → (m + 67) * qlen ≤ total → total < bound → m + k < bound
+places-sum m k qlen total h least fit most = omega (arith, places-start m k qlen total h least fit most, mul-le-mul-left (m + k) least)
+
+-- ---- coefficients in words
+
+module _ (q : ℕ) (words : List ℕ) (m k : ℕ) where
+  pub fitNumber-take-more : fitNumber q (take m words) ≡ 0 → coefficientsFit q (take k (drop m words)) ≡ true → fitNumber q (take (m + k) words) ≡ 0
+  fitNumber-take-more e f = rw (take-add m k words) (fitNumber-more q (take m words) (take k (drop m words)) e f)
+
+  pub fitNumber-take-part : coefficientsFit q (take k (drop m words)) ≡ false → fitNumber q words ≡ 8
+  fitNumber-take-part f =
+      let parts : words ≡ take m words ++ (take k (drop m words) ++ drop k (drop m words)) =
+      sym (take-append-drop m words) ∙ ap (λ (l : List ℕ). take m words ++ l) (sym (take-append-drop k (drop m words))) in
+      rw parts (fitNumber-part q (take m words) (take k (drop m words)) (drop k (drop m words)) f)
+
+pub part-snoc : (words : List ℕ) (m k : ℕ) → m + k < length words → take (k + 1) (drop m words) ≡ take k (drop m words) ++ (getD words (m + k) 0 ∷ [])
+part-snoc words m k h =
+    let inside : k < length (drop m words) = omega (arith, length-drop m words) in
+    rw (add-one k, take-suc (drop m words) k 0 inside, getD-drop m words k 0)
+
+pub part-one : (words : List ℕ) (m : ℕ) → m < length words → take 1 (drop m words) ≡ getD words m 0 ∷ []
+part-one words m h = let e : take (0 + 1) (drop m words) ≡ getD words (m + 0) 0 ∷ [] = part-snoc words m 0 (omega arith) in rw (add-zero m) at e
+
+module _ (q : ℕ) (words : List ℕ) (m : ℕ) (h : m < length words) where
+  pub fitNumber-take-next : {v : ℕ} → readingOf q (getD words m 0) ≡ Below v → fitNumber q (take m words) ≡ 0 → fitNumber q (take (m + 1) words) ≡ 0
+  fitNumber-take-next {v} e z = fitNumber-take-more q words m 1 z (rw (part-one words m h) (reading-below q (getD words m 0) v e))
+
+  pub fitNumber-take-large : readingOf q (getD words m 0) ≡ TooLarge → fitNumber q words ≡ 8
+  fitNumber-take-large e = fitNumber-take-part q words m 1 (rw (part-one words m h) (reading-large q (getD words m 0) e))
+
+-- ---- several at once
+
+-- the mark that a loop keeps: 0 where all so far fit, otherwise 1
+abbrev markOf : Bool → ℕ
+markOf true = 0
+markOf false = 1
+
+abbrev pub largeMark : ℕ → List ℕ → ℕ
+largeMark q xs = markOf (coefficientsFit q xs)
+
+pub large-none : (q : ℕ) → 0 ≡ largeMark q []
+large-none q = rw (coefficientsFit-none q)
+
+module _ (q : ℕ) (xs : List ℕ) where
+  pub large-kept : (x : ℕ) → x < q → largeMark q (xs ++ (x ∷ [])) ≡ largeMark q xs
+  large-kept x h = rw (coefficientsFit-snoc q xs x, lt-ltb x q h, and-true (coefficientsFit q xs))
+
+  pub large-set : (x : ℕ) → q ≤ x → largeMark q (xs ++ (x ∷ [])) ≡ 1
+  large-set x h = rw (coefficientsFit-snoc q xs x, le-ltb x q h, and-false (coefficientsFit q xs))
+
+  pub large-below : {mark : ℕ} → mark ≡ largeMark q xs → mark ≡ 0 → several.Below ≡ readingsOf q xs
+  large-below e z = go (coefficientsFit q xs) (sym e ∙ z)
+    where
+      go : (t : Bool) → markOf t ≡ 0 → several.Below ≡ pickedOf t
+      go true e = refl
+      go false e = let z : ⊥ = omega (arith, e) in absurd z
+
+  pub large-large : {mark : ℕ} → mark ≡ largeMark q xs → (mark ≡ 0 → ⊥) → several.TooLarge ≡ readingsOf q xs
+  large-large e z = go (coefficientsFit q xs) (λ f. z (e ∙ f))
+    where
+      go : (t : Bool) → (markOf t ≡ 0 → ⊥) → several.TooLarge ≡ pickedOf t
+      go true e = absurd (e refl)
+      go false e = refl
+
+-- ---- bits
+
+le-or-l : (x y : ℕ) → x ≤ bitOr x y
+le-or-l x y = omega (arith, or-add-and x y, and-le-r x y)
+
+le-or-r : (x y : ℕ) → y ≤ bitOr x y
+le-or-r x y = rw (or-comm x y) (le-or-l y x)
+
+or-ltb : (b x y : ℕ) → ltb (bitOr x y) (2 ^ b) ≡ (ltb x (2 ^ b) && ltb y (2 ^ b))
+or-ltb b x y =
+    elim (decLt x (2 ^ b)) [
+      | no g ↦ let h : 2 ^ b ≤ x = omega arith in rw (le-ltb x (2 ^ b) h) (le-ltb (bitOr x y) (2 ^ b) (le-trans h (le-or-l x y)))
+      | yes l ↦ elim (decLt y (2 ^ b)) [
+        | no g ↦ let h : 2 ^ b ≤ y = omega arith in rw (le-ltb y (2 ^ b) h, and-false (ltb x (2 ^ b))) (le-ltb (bitOr x y) (2 ^ b) (le-trans h (le-or-r x y)))
+        | yes r ↦ rw (lt-ltb x (2 ^ b) l, lt-ltb y (2 ^ b) r) (lt-ltb (bitOr x y) (2 ^ b) (or-lt b x y l r))
+      ]
+    ]
+
+pub bits-none : (b : ℕ) → ltb 0 (2 ^ b) ≡ coefficientsFit (2 ^ b) []
+bits-none b = rw (coefficientsFit-none (2 ^ b)) (lt-ltb 0 (2 ^ b) (pow-pos b))
+
+pub bits-step : (b bits : ℕ) (words : List ℕ) (m k : ℕ) → m + k < length words
+    → ltb bits (2 ^ b) ≡ coefficientsFit (2 ^ b) (take k (drop m words))
+    → ltb (bitOr bits (getD words (m + k) 0)) (2 ^ b) ≡ coefficientsFit (2 ^ b) (take (k + 1) (drop m words))
+bits-step b bits words m k h e =
+    rw (part-snoc words m k h, coefficientsFit-snoc (2 ^ b) (take k (drop m words)) (getD words (m + k) 0), ← e) (or-ltb b bits (getD words (m + k) 0))
+
+-- what reading the bits tells of the words
+module _ (q r : ℕ) (xs : List ℕ) (e : ltb r q ≡ coefficientsFit q xs) where
+  pub bits-below : {v : ℕ} → readingOf q r ≡ Below v → coefficientsFit q xs ≡ true
+  bits-below {v} f = sym e ∙ sym (coefficientsFit-one q r) ∙ reading-below q r v f
+
+  pub bits-large : readingOf q r ≡ TooLarge → coefficientsFit q xs ≡ false
+  bits-large f = sym e ∙ sym (coefficientsFit-one q r) ∙ reading-large q r f
+
+-- the limit, made by a shift
+pub shifted : (b : ℕ) → b ≤ 4 → 1 * 2 ^ b % 4294967296 ≡ 2 ^ b
+shifted b h =
+    let least : 2 ^ b ≤ 2 ^ 4 = pow-mono h in
+    let one : 1 * 2 ^ b ≡ 2 ^ b = omega arith in
+    rw one (mod-eq-of-lt (omega arith))

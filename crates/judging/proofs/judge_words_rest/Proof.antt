@@ -1,0 +1,78 @@
+-- `judging::judge_words_rest` is right because the words before each place fit, and a word that does not fit settles the answer.
+-- Assumes nothing.
+use Prim.Native.Nat.{_-_, _≤_}
+use mathlib.Core.Path.{_≡_, sym, _∙_}
+use native.Mathlib.Omega.{arith}
+use borrow.Author.Needs.{needs}
+use lib.ListN.{length, take}
+use lib.Seq.{take-all}
+use Rattle.judging.specs.Reading.{fitNumber}
+use Rattle.judging.proofs.Laws.{fitNumber-take-next, fitNumber-take-large}
+use Rattle.judging.proofs.judge_words_rest.Statement.{statement}
+use Rattle.judging.proofs.judge_words_rest.Tie as tie
+
+abbrev Inv-loop : tie.InvT-loop
+Inv-loop words from q m₀ m = (m ≤ length words) × (fitNumber q (take m words) ≡ 0)
+
+abbrev μ-loop : tie.MeasureT-loop
+μ-loop words from q m₀ m = length words - m
+
+loop-holds : tie.Need-loop-holds Inv-loop μ-loop
+loop-holds c = (c .before .pre .0, c .before .pre .1)
+
+mul-bounded : tie.Need-mul-bounded Inv-loop μ-loop
+mul-bounded c = omega arith
+
+shared-slice-read-bounded : tie.Need-shared-slice-read-bounded Inv-loop μ-loop
+shared-slice-read-bounded c = omega arith
+
+bounded-requires : tie.Need-bounded-requires Inv-loop μ-loop
+bounded-requires c κs = search needs
+
+enum-told : tie.Need-enum-told Inv-loop μ-loop
+enum-told c = search needs
+
+enum-told-2 : tie.Need-enum-told-2 Inv-loop μ-loop
+enum-told-2 c = search needs
+
+returns : tie.Need-returns Inv-loop μ-loop
+returns c =
+    let a = c .before .before .before .before .before .before .before .args in
+    let l = c .before .before .before .before .before .loop in
+    sym (fitNumber-take-large (a .q) (a .words .now) (l .m) (omega arith) (sym (c .before .before .bounded .ensures) ∙ c .enum-told2 .given .1))
+
+add-m : tie.Need-add-m Inv-loop μ-loop
+add-m c = omega arith
+
+loop-less : tie.Need-loop-less Inv-loop μ-loop
+loop-less c = omega arith
+
+loop-again : tie.Need-loop-again Inv-loop μ-loop
+loop-again c =
+    let a = c .before .before .before .before .before .before .before .args in
+    let l = c .before .before .before .before .before .loop in
+    (omega arith, fitNumber-take-next (a .q) (a .words .now) (l .m) (omega arith) (sym (c .before .before .bounded .ensures) ∙ c .enum-told .given .1) (l .inv .1))
+
+returns-2 : tie.Need-returns-2 Inv-loop μ-loop
+returns-2 c =
+    let w = c .before .before .before .args .words .now in
+    let all : take (c .before .loop .m) w ≡ w = take-all (c .before .loop .m) w (omega arith) in
+    sym (rw all at (c .before .loop .inv .1))
+
+pub judge-words-rest-spec : {M : Type 1} → statement M
+judge-words-rest-spec =
+    tie.close
+    (tie.spec
+    Inv-loop
+    μ-loop
+    loop-holds
+    mul-bounded
+    shared-slice-read-bounded
+    bounded-requires
+    enum-told
+    enum-told-2
+    returns
+    add-m
+    loop-less
+    loop-again
+    returns-2)

@@ -1,0 +1,189 @@
+// Whether given coefficients fit (01, "Refusal table", number 8): octets and words are judged, and 8 is answered where one is not below the
+// limit. A judge returns at once; it reads several coefficients at a time, and what is left one by one. The contracts cite the
+// definitions' coefficientAt, decoded and coefficientsFit. The loop over octets is written once, with qlen as a variable, and called with
+// a constant, so that the compiler makes a loop for each qlen.
+ghost use mathlib.Core.Path.{_≡_};
+ghost use Prim.Native.Nat.{ℕ, _+_, _*_, _/_, _^_, _≤_};
+ghost use lib.Dec.{ltb};
+ghost use lib.ListN.{length, take, drop};
+ghost use Rattle.definitions.specs.Sequences.{tabulate};
+ghost use Rattle.definitions.specs.Octets.{coefficientAt, decoded, coefficientsFit};
+ghost use Rattle.judging.specs.Reading.{readingOf, readingsOf, fitNumber};
+
+// What reading a coefficient finds: its value, or that it is too large.
+pub enum Coefficient {
+    Below(u32),
+    TooLarge,
+}
+
+// What reading several coefficients at once finds: that each is below q, or that one is too large.
+pub enum Coefficients {
+    Below,
+    TooLarge,
+}
+
+// Whether a number is a coefficient.
+fn bounded(x: u32, q: u32) -> Coefficient
+    ensures { λ r. ⌜ r ≡ readingOf q x ⌝ }
+{
+    if x < q {
+        Coefficient::Below(x)
+    } else {
+        Coefficient::TooLarge
+    }
+}
+
+// The coefficient at place m.
+fn coefficient_at(octets: &[u8], m: usize, qlen: usize, q: u32) -> Coefficient
+    requires { ⌜ (1 ≤ qlen) × (qlen ≤ 4) × (m * qlen + qlen ≤ length (now octets)) ⌝ }
+    ensures { λ r. ⌜ r ≡ readingOf q (coefficientAt qlen (now (octets .entry)) m) ⌝ }
+{
+    bounded(octets::number(octets, m * qlen, qlen), q)
+}
+
+// 64 coefficients from place m on. The loop goes on in any case, so that the compiler judges several at once.
+fn several_at(octets: &[u8], m: usize, qlen: usize, q: u32) -> Coefficients
+    requires { ⌜ (1 ≤ qlen) × (qlen ≤ 4) × ((m + 67) * qlen ≤ length (now octets)) ⌝ }
+    ensures { λ r. ⌜ r ≡ readingsOf q (tabulate 64 (λ k. coefficientAt qlen (now (octets .entry)) (m + k))) ⌝ }
+{
+    let mut large = 0;
+    let mut k = 0;
+    while k < 64 {
+        if octets::wide_number(octets, (m + k) * qlen, qlen) >= q {
+            large = 1;
+        }
+        k += 1;
+    }
+    if large == 0 {
+        Coefficients::Below
+    } else {
+        Coefficients::TooLarge
+    }
+}
+
+// The coefficients from a place on, one by one.
+fn judge_rest(octets: &[u8], from: usize, qlen: usize, q: u32) -> u32
+    requires { ⌜ (1 ≤ qlen) × (qlen ≤ 4) × (from ≤ length (now octets) / qlen) × (fitNumber q (decoded qlen from (now octets)) ≡ 0) ⌝ }
+    ensures { λ r. ⌜ r ≡ fitNumber q (decoded qlen (length (now (octets .entry)) / qlen) (now (octets .entry))) ⌝ }
+{
+    let count = octets.len() / qlen;
+    let mut m = from;
+    while m < count {
+        let Coefficient::Below(_) = coefficient_at(octets, m, qlen, q) else {
+            return 8;
+        };
+        m += 1;
+    }
+    0
+}
+
+fn judge_by(octets: &[u8], qlen: usize, q: u32) -> u32
+    requires { ⌜ (1 ≤ qlen) × (qlen ≤ 4) ⌝ }
+    ensures { λ r. ⌜ r ≡ fitNumber q (decoded qlen (length (now (octets .entry)) / qlen) (now (octets .entry))) ⌝ }
+{
+    let count = octets.len() / qlen;
+    let mut m = 0;
+    while count - m > 66 {
+        let Coefficients::Below = several_at(octets, m, qlen, q) else {
+            return 8;
+        };
+        m += 64;
+    }
+    judge_rest(octets, m, qlen, q)
+}
+
+// 8 where a coefficient in the octets is not below q, otherwise 0.
+pub fn judge(octets: &[u8], qlen: usize, q: u32) -> u32
+    requires { ⌜ (1 ≤ qlen) × (qlen ≤ 4) ⌝ }
+    ensures { λ r. ⌜ r ≡ fitNumber q (decoded qlen (length (now (octets .entry)) / qlen) (now (octets .entry))) ⌝ }
+{
+    if qlen == 1 {
+        return judge_by(octets, 1, q);
+    }
+    if qlen == 2 {
+        return judge_by(octets, 2, q);
+    }
+    if qlen == 3 {
+        return judge_by(octets, 3, q);
+    }
+    judge_by(octets, 4, q)
+}
+
+// 64 words from place m on, in the same way.
+fn several_of(words: &[u32], m: usize, q: u32) -> Coefficients
+    requires { ⌜ m + 64 ≤ length (now words) ⌝ }
+    ensures { λ r. ⌜ r ≡ readingsOf q (take 64 (drop m (now (words .entry)))) ⌝ }
+{
+    let mut large = 0;
+    let mut j = 0;
+    while j < 64 {
+        if words[m + j] >= q {
+            large = 1;
+        }
+        j += 1;
+    }
+    if large == 0 {
+        Coefficients::Below
+    } else {
+        Coefficients::TooLarge
+    }
+}
+
+// The words from a place on, one by one.
+fn judge_words_rest(words: &[u32], from: usize, q: u32) -> u32
+    requires { ⌜ (from ≤ length (now words)) × (fitNumber q (take from (now words)) ≡ 0) ⌝ }
+    ensures { λ r. ⌜ r ≡ fitNumber q (now (words .entry)) ⌝ }
+{
+    let mut m = from;
+    while m < words.len() {
+        let Coefficient::Below(_) = bounded(words[m], q) else {
+            return 8;
+        };
+        m += 1;
+    }
+    0
+}
+
+// 8 where a word is not below q, otherwise 0.
+pub fn judge_words(words: &[u32], q: u32) -> u32
+    ensures { λ r. ⌜ r ≡ fitNumber q (now (words .entry)) ⌝ }
+{
+    let mut m = 0;
+    while words.len() - m >= 64 {
+        let Coefficients::Below = several_of(words, m, q) else {
+            return 8;
+        };
+        m += 64;
+    }
+    judge_words_rest(words, m, q)
+}
+
+// The bits that are set in any of 128 words from place m on: below a power of two where all of them are.
+fn bits_of(words: &[u32], m: usize) -> u32
+    requires { ⌜ m + 128 ≤ length (now words) ⌝ }
+    ensures { λ r. ⌜ ((b : ℕ) → ltb r (2 ^ b) ≡ coefficientsFit (2 ^ b) (take 128 (drop m (now (words .entry))))) ⌝ }
+{
+    let mut bits: u32 = 0;
+    let mut k = 0;
+    while k < 128 {
+        bits |= words[m + k];
+        k += 1;
+    }
+    bits
+}
+
+// 8 where a word is not below 2^b, otherwise 0.
+pub fn judge_small(words: &[u32], b: u32) -> u32
+    requires { ⌜ b ≤ 4 ⌝ }
+    ensures { λ r. ⌜ r ≡ fitNumber (2 ^ b) (now (words .entry)) ⌝ }
+{
+    let l: u32 = 1 << b;
+    let mut m = 0;
+    while words.len() - m >= 128 {
+        let Coefficient::Below(_) = bounded(bits_of(words, m), l) else {
+            return 8;
+        };
+        m += 128;
+    }
+    judge_words_rest(words, m, l)
+}

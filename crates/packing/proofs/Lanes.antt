@@ -1,0 +1,320 @@
+-- Why a group of coefficients may be added up by lanes: the four sums, each shifted to its place, are the number of the group.
+--
+--   lanes-whole      the number of the four lanes is that of the coefficients
+--   lane-..          a lane with one coefficient more; it fits 32 bits, as all of them do together
+--   join-..          the four shifted sums as the code makes them
+--   collect-step     the lanes of one group more;  join-step: its octets
+--   regrouped-groups so many groups more;  groups-step: as the loop over up to 64 groups makes them
+-- Assumes nothing.
+use Prim.Native.Nat.{ℕ, zero, suc, _+_, _-_, _*_, _/_, _%_, _^_, _≤_, _<_, min}
+use mathlib.Core.Path.{_≡_, refl, sym, ap, _∙_}
+use mathlib.Core.Bool.{true}
+use mathlib.Core.List.{List, [], _∷_, _++_, append-nil, append-assoc}
+use native.Mathlib.Nat.{add-zero, suc-mul, mul-comm, le-div-iff-mul-le, div-mul-le-self, mul-le-mul-right, mul-le-mul-left, mod-eq-of-lt, le-trans, lt-of-le-of-lt, lt-of-lt-of-le}
+use native.Mathlib.Numerals.{add-one}
+use native.Mathlib.Decide.{decLt}
+use native.Mathlib.Omega.{arith}
+use lib.Pow.{pow-pos, pow-add, pow-mono, shl-exact}
+use lib.ListN.{length, getD, take, drop, set, length-take, length-drop, take-append-drop}
+use lib.Seq.{take-suc, getD-drop, length-take-le, take-append-le, drop-append-le, drop-at, drop-cons, sets-eq}
+use Rattle.definitions.specs.Sequences.{sum, tabulate, joined}
+use Rattle.definitions.specs.Octets.{octetsOf, regrouped, encoded, coefficientsFit}
+use Rattle.definitions.proofs.Filling.{tabulate-snoc}
+use Rattle.definitions.proofs.Sums.{tabulate-cong}
+use Rattle.definitions.proofs.Octets.{AllBelow, below-take, below-drop, coefficientsFit-below}
+use Rattle.octets.proofs.Laws.{encoded-snoc}
+use Rattle.packing.specs.Fields.{valueIn, fieldsOf}
+use Rattle.packing.specs.Lanes.{laneFrom, lanesIn, laneNumber, groupNumber}
+use Rattle.packing.proofs.Fields.{value-below, value-snoc, octetsOf-fields, regrouped-group}
+use Rattle.packing.proofs.Shifts.{shift-end}
+
+-- ---- the lanes of a group
+
+module _ (words : List ℕ) (at b : ℕ) where
+  value-next : (k : ℕ) → at + k < length words
+      → valueIn b (take (suc k) (drop at words)) ≡ valueIn b (take k (drop at words)) + getD words (at + k) 0 * 2 ^ (k * b)
+  value-next k inside =
+      let room : k < length (drop at words) = omega (arith, length-drop at words) in
+      let whole : length (take k (drop at words)) ≡ k = length-take-le k (drop at words) (omega arith) in
+      rw (
+        take-suc (drop at words) k 0 room,
+        value-snoc b (take k (drop at words)) (getD (drop at words) k 0),
+        whole,
+        getD-drop at words k 0,
+        mul-comm (getD words (at + k) 0) (2 ^ (k * b)),
+      )
+
+  weight : (k : ℕ) → 2 ^ (suc k * b) ≡ 2 ^ b * 2 ^ (k * b)
+  weight k = ap (λ (e : ℕ). 2 ^ e) (omega (arith, suc-mul k b)) ∙ pow-add 2 b (k * b)
+
+  pub lanes-whole : (rows : ℕ) → at + rows * 4 ≤ length words → valueIn b (take (rows * 4) (drop at words)) ≡ valueIn b (lanesIn b rows at words)
+  unfolding valueIn lanesIn laneFrom sum
+  lanes-whole zero h = omega arith
+  lanes-whole (suc rows) h =
+      let k = rows * 4 in
+      let count : suc rows * 4 ≡ suc (suc (suc (suc (rows * 4)))) = omega arith in
+      let e1 : getD words (at + suc (rows * 4)) 0 ≡ getD words (at + 1 + rows * 4) 0 = ap (λ (i : ℕ). getD words i 0) (omega arith) in
+      let e2 : getD words (at + suc (suc (rows * 4))) 0 ≡ getD words (at + 2 + rows * 4) 0 = ap (λ (i : ℕ). getD words i 0) (omega arith) in
+      let e3 : getD words (at + suc (suc (suc (rows * 4)))) 0 ≡ getD words (at + 3 + rows * 4) 0 = ap (λ (i : ℕ). getD words i 0) (omega arith) in
+      rw (
+        count,
+        value-next (suc (suc (suc (rows * 4)))) (omega arith),
+        value-next (suc (suc (rows * 4))) (omega arith),
+        value-next (suc (rows * 4)) (omega arith),
+        value-next (rows * 4) (omega arith),
+        weight (suc (suc (rows * 4))),
+        weight (suc (rows * 4)),
+        weight (rows * 4),
+        e1,
+        e2,
+        e3,
+        lanes-whole rows (omega arith),
+      ) (omega arith)
+
+-- ---- what fits
+
+module _ (b x : ℕ) (xs : List ℕ) where
+  value-head : x ≤ valueIn b (x ∷ xs)
+  unfolding valueIn
+  value-head = omega arith
+
+  value-tail : valueIn b xs ≤ valueIn b (x ∷ xs)
+  unfolding valueIn
+  value-tail = omega (arith, mul-le-mul-right (valueIn b xs) (pow-pos b))
+
+-- coefficients that have at most 32 bits together
+pub part-fits : (words : List ℕ) (at b count : ℕ) → coefficientsFit (2 ^ b) words ≡ true → count * b ≤ 32 → valueIn b (take count (drop at words)) < 4294967296
+part-fits words at b count fit narrow =
+    let short : length (take count (drop at words)) ≤ count = omega (arith, length-take count (drop at words)) in
+    let bits : length (take count (drop at words)) * b ≤ 32 = le-trans (mul-le-mul-right b short) narrow in
+    lt-of-lt-of-le
+    (value-below b (take count (drop at words)) (below-take (2 ^ b) count (drop at words) (below-drop (2 ^ b) at words (coefficientsFit-below (2 ^ b) words fit))))
+    (pow-mono bits)
+
+module _ (words : List ℕ) (at b rows most : ℕ) (fit : coefficientsFit (2 ^ b) words ≡ true) (few : rows ≤ most) (narrow : most * 4 * b ≤ 32)
+    (inside : at + most * 4 ≤ length words)
+  where
+    all-fit : valueIn b (lanesIn b rows at words) < 4294967296
+    all-fit =
+        let bits : rows * 4 * b ≤ 32 = le-trans (mul-le-mul-right b (mul-le-mul-right 4 few)) narrow in
+        rw (← lanes-whole words at b rows (omega arith)) (part-fits words at b (rows * 4) fit bits)
+
+    pub lanes-fit : (laneFrom b rows at words < 4294967296) × (laneFrom b rows (at + 1) words < 4294967296)
+        × (laneFrom b rows (at + 2) words < 4294967296) × (laneFrom b rows (at + 3) words < 4294967296)
+    unfolding lanesIn
+    lanes-fit =
+        let x0 : ℕ = laneFrom b rows at words in
+        let x1 : ℕ = laneFrom b rows (at + 1) words in
+        let x2 : ℕ = laneFrom b rows (at + 2) words in
+        let x3 : ℕ = laneFrom b rows (at + 3) words in
+        let one = lt-of-le-of-lt (value-tail b x0 (x1 ∷ x2 ∷ x3 ∷ [])) all-fit in
+        let two = lt-of-le-of-lt (value-tail b x1 (x2 ∷ x3 ∷ [])) one in
+        let three = lt-of-le-of-lt (value-tail b x2 (x3 ∷ [])) two in (
+          lt-of-le-of-lt (value-head b x0 (x1 ∷ x2 ∷ x3 ∷ [])) all-fit,
+          lt-of-le-of-lt (value-head b x1 (x2 ∷ x3 ∷ [])) one,
+          lt-of-le-of-lt (value-head b x2 (x3 ∷ [])) two,
+          lt-of-le-of-lt (value-head b x3 []) three,
+        )
+
+-- a lane with one coefficient more, as the code makes it
+pub lane-step : (words : List ℕ) (from b rows j : ℕ) {x row : ℕ} → coefficientsFit (2 ^ b) words ≡ true → rows * 4 * b ≤ 32 → j < rows
+    → row < length words → row ≡ from + j * 4 → x ≡ laneFrom b j from words
+    → x + getD words row 0 * 2 ^ (j * 4 * b) % 4294967296 ≡ laneFrom b (j + 1) from words
+unfolding laneFrom sum
+lane-step words from b rows j {x} {row} fit narrow few inside place e =
+    let exact : getD words row 0 * 2 ^ (j * 4 * b) % 4294967296 ≡ getD words row 0 * 2 ^ (j * 4 * b)
+    = shl-exact b (j * 4 * b) 32 (coefficientsFit-below (2 ^ b) words fit row inside) (shift-end (j * 4) (rows * 4) b (omega arith) narrow) in
+    rw (exact, e, add-one j, place)
+
+-- the four stores
+pub lanes-stored : (l : List ℕ) (to b rows at : ℕ) (words : List ℕ) {x0 x1 x2 x3 : ℕ} → to + 4 ≤ length l → x0 ≡ laneFrom b rows at words
+    → x1 ≡ laneFrom b rows (at + 1) words → x2 ≡ laneFrom b rows (at + 2) words → x3 ≡ laneFrom b rows (at + 3) words
+    → set (set (set (set l to x0) (to + 1) x1) (to + 2) x2) (to + 3) x3 ≡ take to l ++ (lanesIn b rows at words ++ drop (to + 4) l)
+unfolding lanesIn
+lanes-stored l to b rows at words {x0} {x1} {x2} {x3} h e0 e1 e2 e3 =
+    let s1 : to + 1 ≡ suc to = omega arith in
+    let s2 : to + 2 ≡ suc (suc to) = omega arith in
+    let s3 : to + 3 ≡ suc (suc (suc to)) = omega arith in
+    rw (← e0, ← e1, ← e2, ← e3, s1, s2, s3)
+    (sets-eq (x0 ∷ x1 ∷ x2 ∷ x3 ∷ []) l to h ∙ append-assoc (take to l) (x0 ∷ x1 ∷ x2 ∷ x3 ∷ []) (drop (to + 4) l))
+
+-- ---- four lanes joined
+
+module _ (lanes : List ℕ) (at b : ℕ) (inside : at + 4 ≤ length lanes) where
+  four : take 4 (drop at lanes) ≡ getD lanes at 0 ∷ getD lanes (at + 1) 0 ∷ getD lanes (at + 2) 0 ∷ getD lanes (at + 3) 0 ∷ []
+  four =
+      let e1 : at + 1 ≡ suc at = omega arith in
+      let e2 : at + 2 ≡ suc (suc at) = omega arith in
+      let e3 : at + 3 ≡ suc (suc (suc at)) = omega arith in
+      rw (
+        e1,
+        e2,
+        e3,
+        drop-cons lanes at 0 (omega arith),
+        drop-cons lanes (suc at) 0 (omega arith),
+        drop-cons lanes (suc (suc at)) 0 (omega arith),
+        drop-cons lanes (suc (suc (suc at))) 0 (omega arith),
+      )
+
+  four-value : valueIn b (take 4 (drop at lanes))
+      ≡ getD lanes at 0 + getD lanes (at + 1) 0 * 2 ^ b + getD lanes (at + 2) 0 * 2 ^ (2 * b) + getD lanes (at + 3) 0 * 2 ^ (3 * b)
+  unfolding valueIn
+  four-value =
+      let two : 2 ^ (2 * b) ≡ 2 ^ b * 2 ^ b = ap (λ (e : ℕ). 2 ^ e) (omega arith) ∙ pow-add 2 b b in
+      let three : 2 ^ (3 * b) ≡ 2 ^ b * (2 ^ b * 2 ^ b)
+      = ap (λ (e : ℕ). 2 ^ e) (omega arith) ∙ pow-add 2 b (b + b) ∙ ap (λ (e : ℕ). 2 ^ b * e) (pow-add 2 b b) in
+      rw (four, two, three) (omega arith)
+
+  module _ (fits : valueIn b (take 4 (drop at lanes)) < 4294967296) where
+    exact-1 : getD lanes (at + 1) 0 * 2 ^ b % 4294967296 ≡ getD lanes (at + 1) 0 * 2 ^ b
+    exact-1 = mod-eq-of-lt (omega (arith, four-value))
+
+    exact-2 : getD lanes (at + 2) 0 * 2 ^ (2 * b) % 4294967296 ≡ getD lanes (at + 2) 0 * 2 ^ (2 * b)
+    exact-2 = mod-eq-of-lt (omega (arith, four-value))
+
+    exact-3 : getD lanes (at + 3) 0 * 2 ^ (3 * b) % 4294967296 ≡ getD lanes (at + 3) 0 * 2 ^ (3 * b)
+    exact-3 = mod-eq-of-lt (omega (arith, four-value))
+
+    pub join-two : getD lanes at 0 + getD lanes (at + 1) 0 * 2 ^ b % 4294967296 < 4294967296
+    join-two = rw exact-1 (omega (arith, four-value))
+
+    pub join-three : getD lanes at 0 + getD lanes (at + 1) 0 * 2 ^ b % 4294967296 + getD lanes (at + 2) 0 * 2 ^ (2 * b) % 4294967296 < 4294967296
+    join-three = rw (exact-1, exact-2) (omega (arith, four-value))
+
+    pub join-four : getD lanes at 0 + getD lanes (at + 1) 0 * 2 ^ b % 4294967296 + getD lanes (at + 2) 0 * 2 ^ (2 * b) % 4294967296
+        + getD lanes (at + 3) 0 * 2 ^ (3 * b) % 4294967296 ≡ valueIn b (take 4 (drop at lanes))
+    join-four = rw (exact-1, exact-2, exact-3) (sym four-value)
+
+-- ---- the lanes of some groups
+
+-- a part of a front does not change with what stands behind the front
+front-part : (p q r : List ℕ) (a c : ℕ) → a + c ≤ length p → take c (drop a (p ++ q)) ≡ take c (drop a (p ++ r))
+front-part p q r a c h =
+    let room : c ≤ length (drop a p) = omega (arith, length-drop a p) in
+    rw (drop-append-le a p q (omega arith), drop-append-le a p r (omega arith), take-append-le c (drop a p) q room, take-append-le c (drop a p) r room)
+
+module _ (b rows at g : ℕ) (words old new : List ℕ) (room : g * 4 + 4 ≤ length old)
+    (stored : new ≡ take (g * 4) old ++ (lanesIn b rows at words ++ drop (g * 4 + 4) old))
+  where
+    collected-new : laneNumber b new g ≡ valueIn b (lanesIn b rows at words)
+    unfolding laneNumber lanesIn
+    collected-new = rw (stored, drop-at (take (g * 4) old) (lanesIn b rows at words ++ drop (g * 4 + 4) old) (g * 4) (length-take-le (g * 4) old (omega arith)))
+
+    collected-old : (k : ℕ) → k < g → laneNumber b new k ≡ laneNumber b old k
+    unfolding laneNumber
+    collected-old k l =
+        let front : length (take (g * 4) old) ≡ g * 4 = length-take-le (g * 4) old (omega arith) in
+        rw stored
+        (ap (valueIn b) (front-part (take (g * 4) old) (lanesIn b rows at words ++ drop (g * 4 + 4) old) (drop (g * 4) old) (k * 4) 4 (omega arith)
+        ∙ ap (λ (r : List ℕ). take 4 (drop (k * 4) r)) (take-append-drop (g * 4) old)))
+
+-- a turn of the loop over groups that adds up lanes
+pub collect-step : (b many start g : ℕ) (words old : List ℕ) {new : List ℕ} → g * 4 + 4 ≤ length old → (start + g) * (many * 8) + many * 8 ≤ length words
+    → new ≡ take (g * 4) old ++ (lanesIn b (many * 2) ((start + g) * (many * 8)) words ++ drop (g * 4 + 4) old)
+    → ((k : ℕ) → k < g → laneNumber b old k ≡ groupNumber b (many * 8) words (start + k))
+    → (k : ℕ) → k < g + 1 → laneNumber b new k ≡ groupNumber b (many * 8) words (start + k)
+collect-step b many start g words old {new} room inside stored before k l =
+    elim (decLt k g) [
+      | yes s ↦ collected-old b (many * 2) ((start + g) * (many * 8)) g words old new room stored k s ∙ before k s
+      | no s ↦
+          let last : k ≡ g = omega arith in
+          rw last (collected-new b (many * 2) ((start + g) * (many * 8)) g words old new room stored ∙ number)
+    ]
+  where
+    size : many * 2 * 4 ≡ many * 8
+    size = omega arith
+
+    number : valueIn b (lanesIn b (many * 2) ((start + g) * (many * 8)) words) ≡ groupNumber b (many * 8) words (start + g)
+    number = unfold groupNumber in rw (← lanes-whole words ((start + g) * (many * 8)) b (many * 2) (omega arith), size)
+
+-- ---- the octets of some groups
+
+-- a turn of the loop over groups that stores octets
+pub join-step : (len start g : ℕ) (front l r : List ℕ) (f : ℕ → ℕ) {x : ℕ} → x ≡ f g
+    → take ((start + g) * len) l ≡ front ++ encoded len (tabulate g f)
+    → take ((start + g) * len + len) r ≡ take ((start + g) * len) l ++ fieldsOf 8 len x
+    → take ((start + (g + 1)) * len) r ≡ front ++ encoded len (tabulate (g + 1) f)
+join-step len start g front l r f value before put =
+    let next : (start + (g + 1)) * len ≡ (start + g) * len + len = omega arith in
+    rw (next, put, before, add-one g, tabulate-snoc g f, encoded-snoc len (tabulate g f) (f g), octetsOf-fields len (f g), value)
+    (append-assoc front (encoded len (tabulate g f)) (fieldsOf 8 len (f g)))
+
+-- so many groups more
+pub regrouped-groups : (w places many : ℕ) (numbers : List ℕ) (start some : ℕ) → 0 < w → many * w ≡ places * 8 → AllBelow (2 ^ w) numbers
+    → regrouped w 8 ((start + some) * places) numbers
+    ≡ regrouped w 8 (start * places) numbers ++ encoded places (tabulate some (λ g. groupNumber w many numbers (start + g)))
+regrouped-groups w places many numbers start zero pos same below =
+    let none : encoded places (tabulate 0 (λ g. groupNumber w many numbers (start + g))) ≡ [] = unfold encoded joined tabulate in refl in
+    rw (add-zero start, none, append-nil (regrouped w 8 (start * places) numbers))
+regrouped-groups w places many numbers start (suc some) pos same below =
+    let next : (start + suc some) * places ≡ (start + some) * places + places = omega arith in
+    let group : fieldsOf 8 places (valueIn w (take many (drop ((start + some) * many) numbers))) ≡ octetsOf places (groupNumber w many numbers (start + some))
+    = unfold groupNumber in sym (octetsOf-fields places (valueIn w (take many (drop ((start + some) * many) numbers)))) in
+    rw (
+      next,
+      regrouped-group w 8 places many numbers (start + some) pos same below,
+      regrouped-groups w places many numbers start some pos same below,
+      group,
+      tabulate-snoc some (λ g. groupNumber w many numbers (start + g)),
+      encoded-snoc places (tabulate some (λ g. groupNumber w many numbers (start + g))) (groupNumber w many numbers (start + some)),
+    )
+    (append-assoc (regrouped w 8 (start * places) numbers) (encoded places (tabulate some (λ g. groupNumber w many numbers (start + g)))) (octetsOf places (groupNumber w many numbers (start + some))))
+
+-- a turn of the loop over up to 64 groups
+pub groups-step : (w places many : ℕ) (numbers l r : List ℕ) (start some : ℕ) (f : ℕ → ℕ) → 0 < w → many * w ≡ places * 8 → AllBelow (2 ^ w) numbers
+    → ((g : ℕ) → g < some → f g ≡ groupNumber w many numbers (start + g)) → take (start * places) l ≡ regrouped w 8 (start * places) numbers
+    → take ((start + some) * places) r ≡ take (start * places) l ++ encoded places (tabulate some f)
+    → take ((start + some) * places) r ≡ regrouped w 8 ((start + some) * places) numbers
+groups-step w places many numbers l r start some f pos same below values before put =
+    rw (regrouped-groups w places many numbers start some pos same below, put, before, tabulate-cong some values)
+
+-- ---- sizes
+
+-- the number of a group's lanes is that of its coefficients
+pub number-fits : (words : List ℕ) (b many g : ℕ) {x : ℕ} → coefficientsFit (2 ^ b) words ≡ true → many * b ≤ 4 → x ≡ groupNumber b (many * 8) words g → x < 4294967296
+unfolding groupNumber
+number-fits words b many g fit small e = rw e (part-fits words (g * (many * 8)) b (many * 8) fit (omega (arith, small)))
+
+pub groups-end : (g some groups len : ℕ) {total : ℕ} → g < groups → some ≡ min (groups - g) 64 → groups * len ≤ total → (g + some) * len ≤ total
+groups-end g some groups len inside e h =
+    let l : g + some ≤ groups = omega arith in
+    le-trans (mul-le-mul-right len l) h
+
+-- a place is at most where its octets or coefficients start
+pub place-below : (m len : ℕ) {total bound : ℕ} → 1 ≤ len → m * len + len ≤ total → total < bound → m < bound
+place-below m len pos h l = omega (arith, mul-le-mul-left m pos)
+
+module _ (many b : ℕ) (posb : 1 ≤ b) (pos : 1 ≤ many) (small : many * b ≤ 4) where
+  pub many-small : many ≤ 4
+  many-small = omega (arith, mul-le-mul-left many posb)
+
+  pub width-small : b ≤ 4
+  width-small = omega (arith, mul-le-mul-right b pos)
+
+  pub len-positive : 1 ≤ many * b
+  len-positive = omega (arith, mul-le-mul-right b pos)
+
+-- 32 bits hold 4 / b times 8 coefficients of b bits
+module _ (b : ℕ) (posb : 1 ≤ b) (few : b ≤ 4) where
+  ratio-positive : 1 ≤ 4 / b
+  ratio-positive = le-div-iff-mul-le posb .1 (omega arith)
+
+  pub ratio-small : 4 / b ≤ 4
+  ratio-small = many-small (4 / b) b posb ratio-positive (div-mul-le-self 4 b)
+
+  pub size-positive : 0 < 4 / b * 8
+  size-positive = omega (arith, ratio-positive)
+
+  pub len-small : 4 / b * b ≤ 4
+  len-small = div-mul-le-self 4 b
+
+  pub len-some : 0 < 4 / b * b
+  len-some = len-positive (4 / b) b posb ratio-positive len-small
+
+  pub group-bits : 4 / b * 8 * b ≡ 4 / b * b * 8
+  group-bits = omega arith
+
+  pub rest-narrow : (count total : ℕ) → count ≡ min total (4 / b * 8) → count * b ≤ 32
+  rest-narrow count total e =
+      let l : count ≤ 4 / b * 8 = omega arith in
+      le-trans (mul-le-mul-right b l) (omega (arith, group-bits, len-small))
