@@ -8,6 +8,7 @@ ghost use Rattle.definitions.specs.Refusals.{firstRefusal};
 ghost use Rattle.definitions.specs.Parameters.{setTests, LimitsExit, limitsExit, LengthsExit, lengthsExit};
 ghost use Rattle.definitions.specs.Calls.{KeygenExit, keygenExit, IsZeroExit, isZeroExit, EncryptExit, encryptExit, AddExit, addExit, DecryptExit, decryptExit};
 ghost use Rattle.giophantus.specs.Interface.{set, limitsOf, lengthsOf};
+use parameters::Checked;
 use parameters::LimitsAnswer;
 use parameters::Parameters;
 
@@ -16,14 +17,10 @@ use parameters::Parameters;
 pub extern "C" fn giophantus_check(l: u32, q: u32, n: u32, dx: u32, dr: u32, mlen: u32) -> u32
     ensures { λ r. ⌜ r ≡ firstRefusal (setTests (set l q n dx dr mlen)) ⌝ }
 {
-    parameters::refusal(Parameters {
-        l,
-        q,
-        n,
-        dx,
-        dr,
-        mlen,
-    })
+    match Parameters::new(l, q, n, dx, dr, mlen) {
+        Checked::Accepted(_) => 0,
+        Checked::Refused(k) => k,
+    }
 }
 
 // The noise bound and the headroom.

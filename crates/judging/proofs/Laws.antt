@@ -2,7 +2,7 @@
 --
 --   coefficientsFit-..       of a list and one more; of two lists end to end
 --   fitNumber-..             the answer for some coefficients more that fit; 8 where some part does not fit
---   reading-.., readings-..  what reading coefficients tells, and that its number is the answer for them
+--   reading-..               what reading a coefficient tells
 --   coefficientsFrom, part-..  several coefficients of octets; of words
 --   places-..                where the octets of several coefficients lie
 --   large-..                 the mark that a loop over several keeps: 0 where all so far fit, otherwise 1
@@ -24,14 +24,12 @@ use lib.Pow.{pow-pos, pow-mono}
 use lib.Bits.{bitOr, or-lt, or-add-and, and-le-r, or-comm}
 use borrow.Author.Tests.{lt-ltb, le-ltb}
 use Rattle.definitions.specs.Sequences.{every, tabulate}
-use Rattle.definitions.specs.Refusals.{refuse, firstRefusal}
+use Rattle.definitions.specs.Refusals.{refuse, firstRefusal, accepted, refused, answer}
 use Rattle.definitions.specs.Octets.{coefficientAt, decoded, coefficientsFit}
 use Rattle.definitions.proofs.Sums.{every-cong}
 use Rattle.definitions.proofs.Filling.{tabulate-snoc, tabulate-add}
-use Rattle.judging.specs.Reading.{picked, readingOf, readingNumber, pickedOf, readingsOf, readingsNumber, fitNumber}
+use Rattle.judging.specs.Reading.{coefficientAnswer, fitNumber}
 use Rattle.judging.proofs.Judged.{fitNumber-fits}
-use Rattle.judging.specs.declared.Coefficient.the-variants.{Below, TooLarge}
-use Rattle.judging.specs.declared.Coefficients.the-variants as several
 
 and-true : (t : Bool) → (t && true) ≡ t
 and-true true = refl
@@ -94,50 +92,29 @@ module _ (q : ℕ) (xs ys : List ℕ) where
 -- ---- what reading tells
 
 module _ (q x : ℕ) where
-  pub reading-below : (v : ℕ) → readingOf q x ≡ Below v → coefficientsFit q (x ∷ []) ≡ true
+  pub reading-below : (v : ℕ) → coefficientAnswer q x ≡ accepted v → coefficientsFit q (x ∷ []) ≡ true
+  unfolding coefficientAnswer answer firstRefusal
   reading-below v e = coefficientsFit-one q x ∙ go (ltb x q) e
     where
-      go : (t : Bool) → picked t x ≡ Below v → t ≡ true
+      go : (t : Bool) → answer [] (refuse 8 (not t) ∷ []) x ≡ accepted v → t ≡ true
       go true e = refl
       go false e = cc
 
-  pub reading-large : readingOf q x ≡ TooLarge → coefficientsFit q (x ∷ []) ≡ false
+  pub reading-large : coefficientAnswer q x ≡ refused 8 → coefficientsFit q (x ∷ []) ≡ false
+  unfolding coefficientAnswer answer firstRefusal
   reading-large e = coefficientsFit-one q x ∙ go (ltb x q) e
     where
-      go : (t : Bool) → picked t x ≡ TooLarge → t ≡ false
+      go : (t : Bool) → answer [] (refuse 8 (not t) ∷ []) x ≡ refused 8 → t ≡ false
       go true e = cc
       go false e = refl
 
-  pub reading-number : readingNumber (readingOf q x) ≡ fitNumber q (x ∷ [])
-  unfolding fitNumber firstRefusal
-  reading-number = rw (coefficientsFit-one q x) (go (ltb x q))
-    where
-      go : (t : Bool) → readingNumber (picked t x) ≡ firstRefusal (refuse 8 (not t) ∷ [])
-      go true = refl
-      go false = refl
-
-module _ (q : ℕ) (xs : List ℕ) where
-  pub readings-below : readingsOf q xs ≡ several.Below → coefficientsFit q xs ≡ true
-  readings-below e = go (coefficientsFit q xs) e
-    where
-      go : (t : Bool) → pickedOf t ≡ several.Below → t ≡ true
-      go true e = refl
-      go false e = cc
-
-  pub readings-large : readingsOf q xs ≡ several.TooLarge → coefficientsFit q xs ≡ false
-  readings-large e = go (coefficientsFit q xs) e
-    where
-      go : (t : Bool) → pickedOf t ≡ several.TooLarge → t ≡ false
-      go true e = cc
-      go false e = refl
-
-  pub readings-number : readingsNumber (readingsOf q xs) ≡ fitNumber q xs
-  unfolding fitNumber firstRefusal
-  readings-number = go (coefficientsFit q xs)
-    where
-      go : (t : Bool) → readingsNumber (pickedOf t) ≡ firstRefusal (refuse 8 (not t) ∷ [])
-      go true = refl
-      go false = refl
+pub fitNumber-refused : (q : ℕ) (xs : List ℕ) → fitNumber q xs ≡ 8 → coefficientsFit q xs ≡ false
+unfolding fitNumber firstRefusal
+fitNumber-refused q xs e = go (coefficientsFit q xs) e
+  where
+    go : (t : Bool) → firstRefusal (refuse 8 (not t) ∷ []) ≡ 8 → t ≡ false
+    go true e = let z : ⊥ = omega (arith, e) in absurd z
+    go false e = refl
 
 -- ---- coefficients in octets
 
@@ -177,30 +154,31 @@ module _ (q qlen : ℕ) (octets : List ℕ) (m k : ℕ) where
       rw parts (fitNumber-part q (decoded qlen m octets) (coefficientsFrom qlen octets m k) rest f)
 
 module _ (q qlen : ℕ) (octets : List ℕ) (m : ℕ) where
-  pub fitNumber-decoded-next : {v : ℕ} → readingOf q (coefficientAt qlen octets m) ≡ Below v → fitNumber q (decoded qlen m octets) ≡ 0
+  pub fitNumber-decoded-next : {v : ℕ} → coefficientAnswer q (coefficientAt qlen octets m) ≡ accepted v → fitNumber q (decoded qlen m octets) ≡ 0
       → fitNumber q (decoded qlen (m + 1) octets) ≡ 0
   fitNumber-decoded-next {v} e z =
       fitNumber-decoded-more q qlen octets m 1 z (rw (coefficientsFrom-one qlen octets m) (reading-below q (coefficientAt qlen octets m) v e))
 
-  pub fitNumber-decoded-large : (count : ℕ) → m < count → readingOf q (coefficientAt qlen octets m) ≡ TooLarge → fitNumber q (decoded qlen count octets) ≡ 8
+  pub fitNumber-decoded-large : (count : ℕ) → m < count → coefficientAnswer q (coefficientAt qlen octets m) ≡ refused 8 → fitNumber q (decoded qlen count octets) ≡ 8
   fitNumber-decoded-large count h e =
       fitNumber-decoded-part q qlen octets m 1 count (omega arith) (rw (coefficientsFrom-one qlen octets m) (reading-large q (coefficientAt qlen octets m) e))
 
--- where the octets of several coefficients lie: three more follow them, so that each is read as four octets
-pub places-fit : (m qlen count total : ℕ) → m + 67 ≤ count → count * qlen ≤ total → (m + 67) * qlen ≤ total
-places-fit m qlen count total h e = le-trans (mul-le-mul-right qlen h) e
+-- where the octets of several coefficients lie, each read as four octets
+module _ (m qlen total : ℕ) (few : qlen ≤ 4) (fit : (m + 63) * qlen + 4 ≤ total) where
+  pub places-count : (m + 64) * qlen ≤ total
+  places-count = omega arith
 
-pub places-end : (m k qlen total : ℕ) → k < 64 → 1 ≤ qlen → (m + 67) * qlen ≤ total → (m + k) * qlen + 4 ≤ total
-places-end m k qlen total h least fit =
-    let behind : m + k + 4 ≤ m + 67 = omega arith in
-    let four : 4 * 1 ≤ 4 * qlen = mul-le-mul-left 4 least in
-    omega (arith, mul-le-mul-right qlen behind)
+  module _ (k : ℕ) (inside : k < 64) where
+    pub places-end : (m + k) * qlen + 4 ≤ total
+    places-end =
+        let behind : m + k ≤ m + 63 = omega arith in
+        omega (arith, mul-le-mul-right qlen behind)
 
-pub places-start : (m k qlen total : ℕ) {bound : ℕ} → k < 64 → 1 ≤ qlen → (m + 67) * qlen ≤ total → total < bound → (m + k) * qlen < bound
-places-start m k qlen total h least fit most = omega (arith, places-end m k qlen total h least fit)
+    pub places-start : {bound : ℕ} → total < bound → (m + k) * qlen < bound
+    places-start most = omega (arith, places-end)
 
-pub places-sum : (m k qlen total : ℕ) {bound : ℕ} → k < 64 → 1 ≤ qlen → (m + 67) * qlen ≤ total → total < bound → m + k < bound
-places-sum m k qlen total h least fit most = omega (arith, places-start m k qlen total h least fit most, mul-le-mul-left (m + k) least)
+    pub places-sum : {bound : ℕ} → 1 ≤ qlen → total < bound → m + k < bound
+    places-sum least most = omega (arith, places-end, mul-le-mul-left (m + k) least)
 
 -- ---- coefficients in words
 
@@ -223,10 +201,10 @@ pub part-one : (words : List ℕ) (m : ℕ) → m < length words → take 1 (dro
 part-one words m h = let e : take (0 + 1) (drop m words) ≡ getD words (m + 0) 0 ∷ [] = part-snoc words m 0 (omega arith) in rw (add-zero m) at e
 
 module _ (q : ℕ) (words : List ℕ) (m : ℕ) (h : m < length words) where
-  pub fitNumber-take-next : {v : ℕ} → readingOf q (getD words m 0) ≡ Below v → fitNumber q (take m words) ≡ 0 → fitNumber q (take (m + 1) words) ≡ 0
+  pub fitNumber-take-next : {v : ℕ} → coefficientAnswer q (getD words m 0) ≡ accepted v → fitNumber q (take m words) ≡ 0 → fitNumber q (take (m + 1) words) ≡ 0
   fitNumber-take-next {v} e z = fitNumber-take-more q words m 1 z (rw (part-one words m h) (reading-below q (getD words m 0) v e))
 
-  pub fitNumber-take-large : readingOf q (getD words m 0) ≡ TooLarge → fitNumber q words ≡ 8
+  pub fitNumber-take-large : coefficientAnswer q (getD words m 0) ≡ refused 8 → fitNumber q words ≡ 8
   fitNumber-take-large e = fitNumber-take-part q words m 1 (rw (part-one words m h) (reading-large q (getD words m 0) e))
 
 -- ---- several at once
@@ -249,17 +227,17 @@ module _ (q : ℕ) (xs : List ℕ) where
   pub large-set : (x : ℕ) → q ≤ x → largeMark q (xs ++ (x ∷ [])) ≡ 1
   large-set x h = rw (coefficientsFit-snoc q xs x, le-ltb x q h, and-false (coefficientsFit q xs))
 
-  pub large-below : {mark : ℕ} → mark ≡ largeMark q xs → mark ≡ 0 → several.Below ≡ readingsOf q xs
-  large-below e z = go (coefficientsFit q xs) (sym e ∙ z)
+  pub large-below : {mark : ℕ} → mark ≡ largeMark q xs → mark ≡ 0 → 0 ≡ fitNumber q xs
+  large-below e z = sym (fitNumber-zero q xs (go (coefficientsFit q xs) (sym e ∙ z)))
     where
-      go : (t : Bool) → markOf t ≡ 0 → several.Below ≡ pickedOf t
+      go : (t : Bool) → markOf t ≡ 0 → t ≡ true
       go true e = refl
       go false e = let z : ⊥ = omega (arith, e) in absurd z
 
-  pub large-large : {mark : ℕ} → mark ≡ largeMark q xs → (mark ≡ 0 → ⊥) → several.TooLarge ≡ readingsOf q xs
-  large-large e z = go (coefficientsFit q xs) (λ f. z (e ∙ f))
+  pub large-large : {mark : ℕ} → mark ≡ largeMark q xs → (mark ≡ 0 → ⊥) → 8 ≡ fitNumber q xs
+  large-large e z = sym (fitNumber-eight q xs (go (coefficientsFit q xs) (λ f. z (e ∙ f))))
     where
-      go : (t : Bool) → (markOf t ≡ 0 → ⊥) → several.TooLarge ≡ pickedOf t
+      go : (t : Bool) → (markOf t ≡ 0 → ⊥) → t ≡ false
       go true e = absurd (e refl)
       go false e = refl
 
@@ -292,10 +270,10 @@ bits-step b bits words m k h e =
 
 -- what reading the bits tells of the words
 module _ (q r : ℕ) (xs : List ℕ) (e : ltb r q ≡ coefficientsFit q xs) where
-  pub bits-below : {v : ℕ} → readingOf q r ≡ Below v → coefficientsFit q xs ≡ true
+  pub bits-below : {v : ℕ} → coefficientAnswer q r ≡ accepted v → coefficientsFit q xs ≡ true
   bits-below {v} f = sym e ∙ sym (coefficientsFit-one q r) ∙ reading-below q r v f
 
-  pub bits-large : readingOf q r ≡ TooLarge → coefficientsFit q xs ≡ false
+  pub bits-large : coefficientAnswer q r ≡ refused 8 → coefficientsFit q xs ≡ false
   bits-large f = sym e ∙ sym (coefficientsFit-one q r) ∙ reading-large q r f
 
 -- the limit, made by a shift

@@ -1,39 +1,27 @@
 -- 01, "Refusal table", number 8: what reading coefficients finds, and what a judge of coefficients answers.
 --
---   readingOf        Below x where x is below q, otherwise TooLarge; picked: by the test
---   readingNumber    01's number for each case: Below 0, TooLarge 8
---   readingsOf       of several: Below where each is below q, otherwise TooLarge; pickedOf: by the test
---   readingsNumber   01's number for each case: Below 0, TooLarge 8
---   fitNumber        8 where some coefficient is q or more, otherwise 0
+--   readingAs          01's number and value for each case of reading one: Below x is accepted with x, TooLarge refused with 8
+--   coefficientAnswer  the answer for a number: refused with 8 where it is q or more, otherwise the number
+--   readingsNumber     01's number for each case of reading several: Below 0, TooLarge 8
+--   fitNumber          8 where some coefficient is q or more, otherwise 0
 -- Assumes nothing.
 use Prim.Native.Nat.{ℕ}
-use mathlib.Core.Bool.{Bool, true, false, not}
+use mathlib.Core.Bool.{not}
 use mathlib.Core.List.{List, [], _∷_}
 use lib.Dec.{ltb}
-use Rattle.definitions.specs.Refusals.{refuse, firstRefusal}
+use Rattle.definitions.specs.Refusals.{refuse, firstRefusal, Answer, accepted, refused, answer}
 use Rattle.definitions.specs.Octets.{coefficientsFit}
 use Rattle.judging.specs.declared.Coefficient.{Coefficient}
 use Rattle.judging.specs.declared.Coefficient.the-variants.{Below, TooLarge}
 use Rattle.judging.specs.declared.Coefficients.{Coefficients}
 use Rattle.judging.specs.declared.Coefficients.the-variants as several
 
-abbrev pub picked : Bool → ℕ → Coefficient
-picked true x = Below x
-picked false x = TooLarge
+abbrev pub readingAs : Coefficient → Answer ℕ
+readingAs (Below x) = accepted x
+readingAs TooLarge = refused 8
 
-abbrev pub readingOf : ℕ → ℕ → Coefficient
-readingOf q x = picked (ltb x q) x
-
-abbrev pub readingNumber : Coefficient → ℕ
-readingNumber (Below x) = 0
-readingNumber TooLarge = 8
-
-abbrev pub pickedOf : Bool → Coefficients
-pickedOf true = several.Below
-pickedOf false = several.TooLarge
-
-abbrev pub readingsOf : ℕ → List ℕ → Coefficients
-readingsOf q coefficients = pickedOf (coefficientsFit q coefficients)
+unfoldable pub coefficientAnswer : ℕ → ℕ → Answer ℕ
+coefficientAnswer q x = answer [] (refuse 8 (not (ltb x q)) ∷ []) x
 
 abbrev pub readingsNumber : Coefficients → ℕ
 readingsNumber several.Below = 0

@@ -1,6 +1,6 @@
 // Whether given coefficients fit (01, "Refusal table", number 8): octets and words are judged, and 8 is answered where one is not below the
-// limit. A judge returns at once; it reads several coefficients at a time, and what is left one by one. The contracts cite the
-// definitions' coefficientAt, decoded and coefficientsFit. The loop over octets is written once, with qlen as a variable, and called with
+// limit. A judge reads several coefficients at a time, returns at the first of these where one is too large, and reads what is left one by
+// one. The contracts cite specs/Reading.antt and the definitions' coefficientAt, decoded and coefficientsFit. The loop over octets is written once, with qlen as a variable, and called with
 // a constant, so that the compiler makes a loop for each qlen.
 ghost use mathlib.Core.Path.{_≡_};
 ghost use Prim.Native.Nat.{ℕ, _+_, _*_, _/_, _^_, _≤_};
@@ -8,7 +8,7 @@ ghost use lib.Dec.{ltb};
 ghost use lib.ListN.{length, take, drop};
 ghost use Rattle.definitions.specs.Sequences.{tabulate};
 ghost use Rattle.definitions.specs.Octets.{coefficientAt, decoded, coefficientsFit};
-ghost use Rattle.judging.specs.Reading.{readingOf, readingsOf, fitNumber};
+ghost use Rattle.judging.specs.Reading.{readingAs, coefficientAnswer, readingsNumber, fitNumber};
 
 // What reading a coefficient finds: its value, or that it is too large.
 pub enum Coefficient {
@@ -24,7 +24,7 @@ pub enum Coefficients {
 
 // Whether a number is a coefficient.
 fn bounded(x: u32, q: u32) -> Coefficient
-    ensures { λ r. ⌜ r ≡ readingOf q x ⌝ }
+    ensures { λ r. ⌜ readingAs r ≡ coefficientAnswer q x ⌝ }
 {
     if x < q {
         Coefficient::Below(x)
@@ -36,15 +36,15 @@ fn bounded(x: u32, q: u32) -> Coefficient
 // The coefficient at place m.
 fn coefficient_at(octets: &[u8], m: usize, qlen: usize, q: u32) -> Coefficient
     requires { ⌜ (1 ≤ qlen) × (qlen ≤ 4) × (m * qlen + qlen ≤ length (now octets)) ⌝ }
-    ensures { λ r. ⌜ r ≡ readingOf q (coefficientAt qlen (now (octets .entry)) m) ⌝ }
+    ensures { λ r. ⌜ readingAs r ≡ coefficientAnswer q (coefficientAt qlen (now (octets .entry)) m) ⌝ }
 {
     bounded(octets::number(octets, m * qlen, qlen), q)
 }
 
-// 64 coefficients from place m on. The loop goes on in any case, so that the compiler judges several at once.
+// 64 coefficients from place m on, each read as four octets. The loop goes on in any case, so that the compiler judges several at once.
 fn several_at(octets: &[u8], m: usize, qlen: usize, q: u32) -> Coefficients
-    requires { ⌜ (1 ≤ qlen) × (qlen ≤ 4) × ((m + 67) * qlen ≤ length (now octets)) ⌝ }
-    ensures { λ r. ⌜ r ≡ readingsOf q (tabulate 64 (λ k. coefficientAt qlen (now (octets .entry)) (m + k))) ⌝ }
+    requires { ⌜ (1 ≤ qlen) × (qlen ≤ 4) × ((m + 63) * qlen + 4 ≤ length (now octets)) ⌝ }
+    ensures { λ r. ⌜ readingsNumber r ≡ fitNumber q (tabulate 64 (λ k. coefficientAt qlen (now (octets .entry)) (m + k))) ⌝ }
 {
     let mut large = 0;
     let mut k = 0;
@@ -81,9 +81,8 @@ fn judge_by(octets: &[u8], qlen: usize, q: u32) -> u32
     requires { ⌜ (1 ≤ qlen) × (qlen ≤ 4) ⌝ }
     ensures { λ r. ⌜ r ≡ fitNumber q (decoded qlen (length (now (octets .entry)) / qlen) (now (octets .entry))) ⌝ }
 {
-    let count = octets.len() / qlen;
     let mut m = 0;
-    while count - m > 66 {
+    while octets.len() - m * qlen >= 63 * qlen + 4 {
         let Coefficients::Below = several_at(octets, m, qlen, q) else {
             return 8;
         };
@@ -109,14 +108,14 @@ pub fn judge(octets: &[u8], qlen: usize, q: u32) -> u32
     judge_by(octets, 4, q)
 }
 
-// 64 words from place m on, in the same way.
+// 32 words from place m on, in the same way.
 fn several_of(words: &[u32], m: usize, q: u32) -> Coefficients
-    requires { ⌜ m + 64 ≤ length (now words) ⌝ }
-    ensures { λ r. ⌜ r ≡ readingsOf q (take 64 (drop m (now (words .entry)))) ⌝ }
+    requires { ⌜ m + 32 ≤ length (now words) ⌝ }
+    ensures { λ r. ⌜ readingsNumber r ≡ fitNumber q (take 32 (drop m (now (words .entry)))) ⌝ }
 {
     let mut large = 0;
     let mut j = 0;
-    while j < 64 {
+    while j < 32 {
         if words[m + j] >= q {
             large = 1;
         }
@@ -149,11 +148,11 @@ pub fn judge_words(words: &[u32], q: u32) -> u32
     ensures { λ r. ⌜ r ≡ fitNumber q (now (words .entry)) ⌝ }
 {
     let mut m = 0;
-    while words.len() - m >= 64 {
+    while words.len() - m >= 32 {
         let Coefficients::Below = several_of(words, m, q) else {
             return 8;
         };
-        m += 64;
+        m += 32;
     }
     judge_words_rest(words, m, q)
 }

@@ -48,7 +48,7 @@ fn four(octets: &[u8], at: usize) -> u32
         + wide(octets[at + 3]) * 16777216
 }
 
-// The number of one to four octets, of which the first are kept of four that are read at once.
+// The number of one to four octets: four are read at once, and the first `len` kept.
 pub fn wide_number(octets: &[u8], at: usize, len: usize) -> u32
     requires { ⌜ (1 ≤ len) × (len ≤ 4) × (at + 4 ≤ length (now octets)) ⌝ }
     ensures { λ r. ⌜ r ≡ numberOf (take len (drop at (now (octets .entry)))) ⌝ }
@@ -138,7 +138,7 @@ fn store_eight(octets: &mut [u8], at: usize, x: u64)
     store(octets, at + 4, 4, (x / 4294967296) as u32);
 }
 
-// The number whose octets are those of two words.
+// The number whose first octets, qlen for each, are those of two words.
 fn pair(words: &[u32], m: usize, qlen: usize) -> u64
     requires { ⌜ (1 ≤ qlen) × (qlen ≤ 4) × (m + 2 ≤ length (now words)) ⌝ }
     ensures { λ r. ⌜ r ≡ getD (now (words .entry)) m 0 % 256 ^ qlen + 256 ^ qlen * getD (now (words .entry)) (m + 1) 0 ⌝ }
@@ -166,7 +166,7 @@ fn encode_by(words: &[u32], qlen: usize, octets: &mut [u8])
     ensures { λ _. ⌜ now (octets .exit) ≡ encoded qlen (now (words .entry)) ⌝ }
 {
     let mut m = 0;
-    while words.len() - m > 8 {
+    while words.len() - m > 7 {
         store_eight(octets, m * qlen, pair(words, m, qlen));
         m += 2;
     }

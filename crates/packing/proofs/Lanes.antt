@@ -4,7 +4,7 @@
 --   lane-..          a lane with one coefficient more; it fits 32 bits, as all of them do together
 --   join-..          the four shifted sums as the code makes them
 --   collect-step     the lanes of one group more;  join-step: its octets
---   regrouped-groups so many groups more;  groups-step: as the loop over up to 64 groups makes them
+--   regrouped-groups so many groups more;  groups-step: as the loop over up to 16 groups makes them
 -- Assumes nothing.
 use Prim.Native.Nat.{ℕ, zero, suc, _+_, _-_, _*_, _/_, _%_, _^_, _≤_, _<_, min}
 use mathlib.Core.Path.{_≡_, refl, sym, ap, _∙_}
@@ -260,7 +260,7 @@ regrouped-groups w places many numbers start (suc some) pos same below =
     )
     (append-assoc (regrouped w 8 (start * places) numbers) (encoded places (tabulate some (λ g. groupNumber w many numbers (start + g)))) (octetsOf places (groupNumber w many numbers (start + some))))
 
--- a turn of the loop over up to 64 groups
+-- a turn of the loop over up to 16 groups
 pub groups-step : (w places many : ℕ) (numbers l r : List ℕ) (start some : ℕ) (f : ℕ → ℕ) → 0 < w → many * w ≡ places * 8 → AllBelow (2 ^ w) numbers
     → ((g : ℕ) → g < some → f g ≡ groupNumber w many numbers (start + g)) → take (start * places) l ≡ regrouped w 8 (start * places) numbers
     → take ((start + some) * places) r ≡ take (start * places) l ++ encoded places (tabulate some f)
@@ -275,7 +275,7 @@ pub number-fits : (words : List ℕ) (b many g : ℕ) {x : ℕ} → coefficients
 unfolding groupNumber
 number-fits words b many g fit small e = rw e (part-fits words (g * (many * 8)) b (many * 8) fit (omega (arith, small)))
 
-pub groups-end : (g some groups len : ℕ) {total : ℕ} → g < groups → some ≡ min (groups - g) 64 → groups * len ≤ total → (g + some) * len ≤ total
+pub groups-end : (g some groups len : ℕ) {total : ℕ} → g < groups → some ≡ min (groups - g) 16 → groups * len ≤ total → (g + some) * len ≤ total
 groups-end g some groups len inside e h =
     let l : g + some ≤ groups = omega arith in
     le-trans (mul-le-mul-right len l) h

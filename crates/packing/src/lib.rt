@@ -1,8 +1,9 @@
 // Small elements and messages (01, "Ring, monomials, octets"): coefficient i takes b bits, starting at bit i × b of the octets.
-// 4 / b times 8 coefficients are 4 / b times b octets, at most 32 bits, so the loops go by such groups; a last group may be shorter. A
+// 32 bits hold 32 coefficients of 1 bit, 16 of 2, 8 of 3 or of 4; the loops go by such groups, and a last group may be shorter. A
 // list that ends early counts as going on with zeros, so the lengths are free. Unused bits are judged by `padding`, which refuses with 7,
-// and written as zero. The contracts cite the definitions' packed and paddingClear; those of the steps also specs/Lanes.antt. A group is
-// added up in four sums, of every fourth coefficient each, since the compiler then adds whole rows of four at once. The loops are written
+// and written as zero. The contracts cite the definitions' packed and paddingClear; those of the steps also specs/Fields.antt and
+// specs/Lanes.antt. A group is added up in four lanes, of every fourth coefficient each, since the compiler then adds whole rows of four at
+// once. The loops are written
 // once, with b as a variable, and called with a constant, so that the compiler makes a loop for each b.
 ghost use mathlib.Core.Path.{_≡_};
 ghost use mathlib.Core.Bool.{true};
@@ -62,7 +63,7 @@ fn clear_octets(octets: &mut [u8], at: usize)
     }
 }
 
-// The four sums of a group: sum k has every fourth coefficient from coefficient k on, 4 b bits each.
+// The four lanes of a group: lane k adds up every fourth coefficient from coefficient k on, 4 b bits each.
 fn collect(words: &[u32], at: usize, rows: usize, b: usize, lanes: &mut [u32], to: usize)
     requires { ⌜ (1 ≤ b) × (1 ≤ rows) × (rows * 4 * b ≤ 32) × (at + rows * 4 ≤ length (now words)) × (to + 4 ≤ length (now lanes)) × (coefficientsFit (2 ^ b) (now words) ≡ true) ⌝ }
     ensures { λ _. ⌜ now (lanes .exit) ≡ take to (now (lanes .entry)) ++ (lanesIn b rows at (now (words .entry)) ++ drop (to + 4) (now (lanes .entry))) ⌝ }
@@ -87,7 +88,7 @@ fn collect(words: &[u32], at: usize, rows: usize, b: usize, lanes: &mut [u32], t
     lanes[to + 3] = fourth;
 }
 
-// The number of a group, from its four sums.
+// The number of a group, from its four lanes.
 fn join(lanes: &[u32], at: usize, b: usize) -> u32
     requires { ⌜ (b ≤ 4) × (at + 4 ≤ length (now lanes)) × (valueIn b (take 4 (drop at (now lanes))) < 4294967296) ⌝ }
     ensures { λ r. ⌜ r ≡ valueIn b (take 4 (drop at (now (lanes .entry)))) ⌝ }
@@ -95,7 +96,7 @@ fn join(lanes: &[u32], at: usize, b: usize) -> u32
     lanes[at] + (lanes[at + 1] << b) + (lanes[at + 2] << (2 * b)) + (lanes[at + 3] << (3 * b))
 }
 
-// The four sums of each of some groups.
+// The four lanes of each of some groups.
 fn collect_groups(
     words: &[u32],
     b: usize,
@@ -114,7 +115,7 @@ fn collect_groups(
     }
 }
 
-// The octets of each of some groups, from its four sums.
+// The octets of each of some groups, from its four lanes.
 fn join_groups(lanes: &[u32], b: usize, many: usize, start: usize, some: usize, octets: &mut [u8])
     requires { ⌜ (1 ≤ b) × (1 ≤ many) × (many * b ≤ 4) × ((start + some) * (many * b) ≤ length (now octets)) × (some * 4 ≤ length (now lanes)) ⌝ }
     requires { ⌜ ((g : ℕ) → g < some → laneNumber b (now lanes) g < 4294967296) ⌝ }
@@ -132,15 +133,15 @@ fn join_groups(lanes: &[u32], b: usize, many: usize, start: usize, some: usize, 
     }
 }
 
-// At most 64 groups at a time, all their sums before all their octets, so that the compiler adds whole rows of four.
+// At most 16 groups at a time, all their lanes before all their octets, so that the compiler adds whole rows of four.
 fn pack_groups_by(words: &[u32], b: usize, many: usize, groups: usize, octets: &mut [u8])
     requires { ⌜ (1 ≤ b) × (1 ≤ many) × (many * b ≤ 4) × (groups * (many * b) ≤ length (now octets)) × (groups * (many * 8) ≤ length (now words)) × (coefficientsFit (2 ^ b) (now words) ≡ true) ⌝ }
     ensures { λ _. ⌜ take (groups * (many * b)) (now (octets .exit)) ≡ packed b (groups * (many * b)) (now (words .entry)) ⌝ }
 {
-    let mut lanes = [0u32; 256];
+    let mut lanes = [0u32; 64];
     let mut g = 0;
     while g < groups {
-        let some = least(groups - g, 64);
+        let some = least(groups - g, 16);
         collect_groups(words, b, many, g, some, &mut lanes);
         join_groups(&lanes, b, many, g, some, octets);
         g += some;

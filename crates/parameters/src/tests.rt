@@ -40,7 +40,7 @@ fn is_degree(d: u32) -> bool
 const CAP: u64 = 2147483648;
 
 // B, or 2^31 where B is more. The terms are added one by one, and the sum stops once it reaches 2^31, so every step fits 64 bits:
-// a term is at most 61,440 times the term before it, which is part of the sum.
+// a term is at most 122,880 times the term before it, which is part of the sum.
 pub fn capped_bound(p: Parameters) -> u32
     requires { ⌜ rangeFits (setFrom p) ≡ true ⌝ }
     requires { ⌜ ringFits (setFrom p) ≡ true ⌝ }

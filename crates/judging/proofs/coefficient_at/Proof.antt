@@ -2,7 +2,7 @@
 -- Assumes nothing.
 use mathlib.Core.Path.{ap, _∙_}
 use Rattle.definitions.specs.Octets.{coefficientAt}
-use Rattle.judging.specs.Reading.{readingOf}
+use Rattle.judging.specs.Reading.{coefficientAnswer}
 use borrow.Author.Needs.{needs}
 use Rattle.judging.proofs.coefficient_at.Statement.{statement}
 use Rattle.judging.proofs.coefficient_at.Tie as tie
@@ -18,7 +18,7 @@ bounded-requires c κs = search needs
 
 returns : tie.Need-returns
 unfolding coefficientAt
-returns c = c .bounded .ensures ∙ ap (readingOf (c .before .before .before .args .q)) (c .before .number .ensures)
+returns c = c .bounded .ensures ∙ ap (coefficientAnswer (c .before .before .before .args .q)) (c .before .number .ensures)
 
 pub coefficient-at-spec : {M : Type 1} → statement M
 coefficient-at-spec = tie.close (tie.spec mul-number number-requires bounded-requires returns)

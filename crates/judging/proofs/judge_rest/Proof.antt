@@ -1,13 +1,13 @@
 -- `judging::judge_rest` is right because the coefficients before each place fit, and one that does not fit settles the answer.
 -- Assumes nothing.
 use Prim.Native.Nat.{_-_, _/_, _≤_, _<_}
-use mathlib.Core.Path.{_≡_, sym, _∙_}
+use mathlib.Core.Path.{_≡_, sym, ap, _∙_}
 use native.Mathlib.Nat.{div-le-self, div-mul-le-self, lt-of-lt-of-le}
 use native.Mathlib.Omega.{arith}
 use borrow.Author.Needs.{needs}
 use lib.ListN.{length}
 use Rattle.definitions.specs.Octets.{decoded}
-use Rattle.judging.specs.Reading.{fitNumber}
+use Rattle.judging.specs.Reading.{readingAs, fitNumber}
 use Rattle.octets.proofs.Laws.{place-end}
 use Rattle.judging.proofs.Laws.{fitNumber-decoded-next, fitNumber-decoded-large}
 use Rattle.judging.proofs.judge_rest.Statement.{statement}
@@ -40,7 +40,7 @@ returns : tie.Need-returns Inv-loop μ-loop
 returns c =
     let a = c .before .before .before .before .before .before .args in
     let l = c .before .before .before .before .loop in
-    sym (fitNumber-decoded-large (a .q) (a .qlen) (a .octets .now) (l .m) (length (a .octets .now) / a .qlen) (c .before .before .before .loop-test .taken) (sym (c .before .before .coefficient-at .ensures) ∙ c .enum-told2 .given .1))
+    sym (fitNumber-decoded-large (a .q) (a .qlen) (a .octets .now) (l .m) (length (a .octets .now) / a .qlen) (c .before .before .before .loop-test .taken) (sym (c .before .before .coefficient-at .ensures) ∙ ap readingAs (c .enum-told2 .given .1)))
 
 add-m : tie.Need-add-m Inv-loop μ-loop
 add-m c =
@@ -56,7 +56,7 @@ loop-again : tie.Need-loop-again Inv-loop μ-loop
 loop-again c =
     let a = c .before .before .before .before .before .before .args in
     let l = c .before .before .before .before .loop in
-    (omega arith, fitNumber-decoded-next (a .q) (a .qlen) (a .octets .now) (l .m) (sym (c .before .before .coefficient-at .ensures) ∙ c .enum-told .given .1) (l .inv .1))
+    (omega arith, fitNumber-decoded-next (a .q) (a .qlen) (a .octets .now) (l .m) (sym (c .before .before .coefficient-at .ensures) ∙ ap readingAs (c .enum-told .given .1)) (l .inv .1))
 
 returns-2 : tie.Need-returns-2 Inv-loop μ-loop
 returns-2 c =

@@ -2,11 +2,11 @@
 -- judged behind them.
 -- Assumes nothing.
 use Prim.Native.Nat.{_-_, _^_, _≤_}
-use mathlib.Core.Path.{_≡_, sym, _∙_}
+use mathlib.Core.Path.{_≡_, sym, ap, _∙_}
 use native.Mathlib.Omega.{arith}
 use borrow.Author.Needs.{needs}
 use lib.ListN.{length, take}
-use Rattle.judging.specs.Reading.{fitNumber}
+use Rattle.judging.specs.Reading.{readingAs, fitNumber}
 use Rattle.judging.proofs.Laws.{fitNumber-nil, fitNumber-take-more, fitNumber-take-part, bits-below, bits-large, shifted}
 use Rattle.judging.proofs.judge_small.Statement.{statement}
 use Rattle.judging.proofs.judge_small.Tie as tie
@@ -42,7 +42,7 @@ returns : tie.Need-returns Inv-loop μ-loop
 returns c =
     let s = c .before .before .before .before .before .before .before in
     let m = c .before .before .before .before .before .loop .m in
-    let found = rw (shifted (s .args .b) (s .pre)) at (sym (c .before .before .bounded .ensures) ∙ c .enum-told2 .given .1) in
+    let found = rw (shifted (s .args .b) (s .pre)) at (sym (c .before .before .bounded .ensures) ∙ ap readingAs (c .enum-told2 .given .1)) in
     sym (fitNumber-take-part (2 ^ s .args .b) (s .args .words .now) m 128 (bits-large (2 ^ s .args .b) _ _ (c .before .before .before .bits-of .ensures (s .args .b)) found))
 
 add-m : tie.Need-add-m Inv-loop μ-loop
@@ -55,7 +55,7 @@ loop-again : tie.Need-loop-again Inv-loop μ-loop
 loop-again c =
     let s = c .before .before .before .before .before .before .before in
     let l = c .before .before .before .before .before .loop in
-    let found = rw (shifted (s .args .b) (s .pre)) at (sym (c .before .before .bounded .ensures) ∙ c .enum-told .given .1) in
+    let found = rw (shifted (s .args .b) (s .pre)) at (sym (c .before .before .bounded .ensures) ∙ ap readingAs (c .enum-told .given .1)) in
     (omega arith, fitNumber-take-more (2 ^ s .args .b) (s .args .words .now) (l .m) 128 (l .inv .1) (bits-below (2 ^ s .args .b) _ _ (c .before .before .before .bits-of .ensures (s .args .b)) found))
 
 judge-words-rest-requires : tie.Need-judge-words-rest-requires Inv-loop μ-loop

@@ -1,12 +1,13 @@
 -- `judging::judge_words` is right because the words before each place fit, several that do not fit settle the answer, and the rest is judged behind them.
 -- Assumes nothing.
 use Prim.Native.Nat.{_-_, _≤_}
-use mathlib.Core.Path.{_≡_, sym, _∙_}
+use mathlib.Core.Path.{_≡_, sym, ap, _∙_}
 use native.Mathlib.Omega.{arith}
 use borrow.Author.Needs.{needs}
 use lib.ListN.{length, take}
-use Rattle.judging.specs.Reading.{fitNumber}
-use Rattle.judging.proofs.Laws.{fitNumber-nil, fitNumber-take-more, fitNumber-take-part, readings-below, readings-large}
+use Rattle.judging.specs.Reading.{readingsNumber, fitNumber}
+use Rattle.judging.proofs.Judged.{fitNumber-fits}
+use Rattle.judging.proofs.Laws.{fitNumber-nil, fitNumber-take-more, fitNumber-take-part, fitNumber-refused}
 use Rattle.judging.proofs.judge_words.Statement.{statement}
 use Rattle.judging.proofs.judge_words.Tie as tie
 
@@ -35,7 +36,7 @@ returns : tie.Need-returns Inv-loop μ-loop
 returns c =
     let a = c .before .before .before .before .before .before .args in
     let m = c .before .before .before .before .loop .m in
-    sym (fitNumber-take-part (a .q) (a .words .now) m 64 (readings-large (a .q) _ (sym (c .before .before .several-of .ensures) ∙ c .enum-told2 .given .1)))
+    sym (fitNumber-take-part (a .q) (a .words .now) m 32 (fitNumber-refused (a .q) _ (sym (c .before .before .several-of .ensures) ∙ ap readingsNumber (c .enum-told2 .given .1))))
 
 add-m : tie.Need-add-m Inv-loop μ-loop
 add-m c = omega arith
@@ -47,7 +48,7 @@ loop-again : tie.Need-loop-again Inv-loop μ-loop
 loop-again c =
     let a = c .before .before .before .before .before .before .args in
     let l = c .before .before .before .before .loop in
-    (omega arith, fitNumber-take-more (a .q) (a .words .now) (l .m) 64 (l .inv .1) (readings-below (a .q) _ (sym (c .before .before .several-of .ensures) ∙ c .enum-told .given .1)))
+    (omega arith, fitNumber-take-more (a .q) (a .words .now) (l .m) 32 (l .inv .1) (fitNumber-fits (a .q) _ (sym (c .before .before .several-of .ensures) ∙ ap readingsNumber (c .enum-told .given .1))))
 
 judge-words-rest-requires : tie.Need-judge-words-rest-requires Inv-loop μ-loop
 judge-words-rest-requires c κs = c .before .loop .inv

@@ -1,12 +1,12 @@
 -- `judging::judge_words_rest` is right because the words before each place fit, and a word that does not fit settles the answer.
 -- Assumes nothing.
 use Prim.Native.Nat.{_-_, _≤_}
-use mathlib.Core.Path.{_≡_, sym, _∙_}
+use mathlib.Core.Path.{_≡_, sym, ap, _∙_}
 use native.Mathlib.Omega.{arith}
 use borrow.Author.Needs.{needs}
 use lib.ListN.{length, take}
 use lib.Seq.{take-all}
-use Rattle.judging.specs.Reading.{fitNumber}
+use Rattle.judging.specs.Reading.{readingAs, fitNumber}
 use Rattle.judging.proofs.Laws.{fitNumber-take-next, fitNumber-take-large}
 use Rattle.judging.proofs.judge_words_rest.Statement.{statement}
 use Rattle.judging.proofs.judge_words_rest.Tie as tie
@@ -39,7 +39,7 @@ returns : tie.Need-returns Inv-loop μ-loop
 returns c =
     let a = c .before .before .before .before .before .before .before .args in
     let l = c .before .before .before .before .before .loop in
-    sym (fitNumber-take-large (a .q) (a .words .now) (l .m) (omega arith) (sym (c .before .before .bounded .ensures) ∙ c .enum-told2 .given .1))
+    sym (fitNumber-take-large (a .q) (a .words .now) (l .m) (omega arith) (sym (c .before .before .bounded .ensures) ∙ ap readingAs (c .enum-told2 .given .1)))
 
 add-m : tie.Need-add-m Inv-loop μ-loop
 add-m c = omega arith
@@ -51,7 +51,7 @@ loop-again : tie.Need-loop-again Inv-loop μ-loop
 loop-again c =
     let a = c .before .before .before .before .before .before .before .args in
     let l = c .before .before .before .before .before .loop in
-    (omega arith, fitNumber-take-next (a .q) (a .words .now) (l .m) (omega arith) (sym (c .before .before .bounded .ensures) ∙ c .enum-told .given .1) (l .inv .1))
+    (omega arith, fitNumber-take-next (a .q) (a .words .now) (l .m) (omega arith) (sym (c .before .before .bounded .ensures) ∙ ap readingAs (c .enum-told .given .1)) (l .inv .1))
 
 returns-2 : tie.Need-returns-2 Inv-loop μ-loop
 returns-2 c =

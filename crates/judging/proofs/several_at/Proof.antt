@@ -23,17 +23,17 @@ loop-holds c = (omega arith, large-none (c .before .args .q))
 add-wide-number : tie.Need-add-wide-number Inv-loop μ-loop
 add-wide-number c =
     let a = c .before .before .before .args in
-    record { fits = places-sum (a .m) (c .before .loop .k) (a .qlen) _ (omega arith) (c .before .before .before .pre .0) (c .before .before .before .pre .2) (omega arith) }
+    record { fits = places-sum (a .m) (a .qlen) _ (omega arith) (c .before .before .before .pre .2) (c .before .loop .k) (omega arith) (c .before .before .before .pre .0) (omega arith) }
 
 mul-wide-number : tie.Need-mul-wide-number Inv-loop μ-loop
 mul-wide-number c =
     let a = c .before .before .before .args in
-    record { fits = places-start (a .m) (c .before .loop .k) (a .qlen) _ (omega arith) (c .before .before .before .pre .0) (c .before .before .before .pre .2) (omega arith) }
+    record { fits = places-start (a .m) (a .qlen) _ (omega arith) (c .before .before .before .pre .2) (c .before .loop .k) (omega arith) (omega arith) }
 
 wide-number-requires : tie.Need-wide-number-requires Inv-loop μ-loop
 wide-number-requires c κs =
     let start = c .before .before .before in
-    (start .pre .0, start .pre .1, places-end (start .args .m) (c .before .loop .k) (start .args .qlen) _ (omega arith) (start .pre .0) (start .pre .2))
+    (start .pre .0, start .pre .1, places-end (start .args .m) (start .args .qlen) _ (start .pre .1) (start .pre .2) (c .before .loop .k) (omega arith))
 
 add-k : tie.Need-add-k Inv-loop μ-loop
 add-k c = omega arith

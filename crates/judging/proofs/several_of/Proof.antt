@@ -10,10 +10,10 @@ use Rattle.judging.proofs.several_of.Statement.{statement}
 use Rattle.judging.proofs.several_of.Tie as tie
 
 abbrev Inv-loop : tie.InvT-loop
-Inv-loop words m q large₀ j₀ large j = (j ≤ 64) × (large ≡ largeMark q (take j (drop m words)))
+Inv-loop words m q large₀ j₀ large j = (j ≤ 32) × (large ≡ largeMark q (take j (drop m words)))
 
 abbrev μ-loop : tie.MeasureT-loop
-μ-loop words m q large₀ j₀ large j = 64 - j
+μ-loop words m q large₀ j₀ large j = 32 - j
 
 loop-holds : tie.Need-loop-holds Inv-loop μ-loop
 loop-holds c = (omega arith, large-none (c .args .q))
@@ -51,15 +51,15 @@ returns : tie.Need-returns Inv-loop μ-loop
 returns c =
     let a = c .before .before .before .args in
     let l = c .before .before .loop in
-    let end : l .j ≡ 64 = omega arith in
-    large-below (a .q) (take 64 (drop (a .m) (a .words .now))) (rw end at (l .inv .1)) (c .if2 .taken)
+    let end : l .j ≡ 32 = omega arith in
+    large-below (a .q) (take 32 (drop (a .m) (a .words .now))) (rw end at (l .inv .1)) (c .if2 .taken)
 
 returns-2 : tie.Need-returns-2 Inv-loop μ-loop
 returns-2 c =
     let a = c .before .before .before .args in
     let l = c .before .before .loop in
-    let end : l .j ≡ 64 = omega arith in
-    large-large (a .q) (take 64 (drop (a .m) (a .words .now))) (rw end at (l .inv .1)) (c .if2 .left)
+    let end : l .j ≡ 32 = omega arith in
+    large-large (a .q) (take 32 (drop (a .m) (a .words .now))) (rw end at (l .inv .1)) (c .if2 .left)
 
 pub several-of-spec : {M : Type 1} → statement M
 several-of-spec =

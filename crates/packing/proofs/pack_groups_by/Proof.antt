@@ -1,4 +1,4 @@
--- `packing::pack_groups_by` is right because a turn puts the octets of up to 64 groups behind those of the groups before.
+-- `packing::pack_groups_by` is right because a turn puts the octets of up to 16 groups behind those of the groups before.
 -- Assumes nothing.
 use Prim.Native.Nat.{_+_, _-_, _*_, _≤_}
 use mathlib.Core.Path.{_≡_, refl, sym, _∙_}
@@ -15,7 +15,7 @@ use Rattle.packing.proofs.pack_groups_by.Tie as tie
 
 abbrev Inv-loop : tie.InvT-loop
 Inv-loop words b many groups octets₀ lanes₀ g₀ octets lanes g =
-    (g ≤ groups) × (length octets ≡ length octets₀) × (length lanes ≡ 256) × (take (g * (many * b)) octets ≡ packed b (g * (many * b)) words)
+    (g ≤ groups) × (length octets ≡ length octets₀) × (length lanes ≡ 64) × (take (g * (many * b)) octets ≡ packed b (g * (many * b)) words)
 
 abbrev μ-loop : tie.MeasureT-loop
 μ-loop words b many groups octets₀ lanes₀ g₀ octets lanes g = groups - g
