@@ -108,14 +108,6 @@ module _ (q x : ℕ) where
       go true e = cc
       go false e = refl
 
-pub fitNumber-refused : (q : ℕ) (xs : List ℕ) → fitNumber q xs ≡ 8 → coefficientsFit q xs ≡ false
-unfolding fitNumber firstRefusal
-fitNumber-refused q xs e = go (coefficientsFit q xs) e
-  where
-    go : (t : Bool) → firstRefusal (refuse 8 (not t) ∷ []) ≡ 8 → t ≡ false
-    go true e = let z : ⊥ = omega (arith, e) in absurd z
-    go false e = refl
-
 -- ---- coefficients in octets
 
 abbrev pub coefficientsFrom : ℕ → List ℕ → ℕ → ℕ → List ℕ

@@ -2,6 +2,7 @@
 // limit. A judge reads several coefficients at a time, returns at the first of these where one is too large, and reads what is left one by
 // one. The contracts cite specs/Reading.antt and the definitions' coefficientAt, decoded and coefficientsFit. The loop over octets is written once, with qlen as a variable, and called with
 // a constant, so that the compiler makes a loop for each qlen.
+use parameters::refusals;
 ghost use mathlib.Core.Path.{_≡_};
 ghost use Prim.Native.Nat.{ℕ, _+_, _*_, _/_, _^_, _≤_};
 ghost use lib.Dec.{ltb};
@@ -70,7 +71,7 @@ fn judge_rest(octets: &[u8], from: usize, qlen: usize, q: u32) -> u32
     let mut m = from;
     while m < count {
         let Coefficient::Below(_) = coefficient_at(octets, m, qlen, q) else {
-            return 8;
+            return refusals::COEFFICIENT;
         };
         m += 1;
     }
@@ -84,7 +85,7 @@ fn judge_by(octets: &[u8], qlen: usize, q: u32) -> u32
     let mut m = 0;
     while octets.len() - m * qlen >= 63 * qlen + 4 {
         let Coefficients::Below = several_at(octets, m, qlen, q) else {
-            return 8;
+            return refusals::COEFFICIENT;
         };
         m += 64;
     }
@@ -136,25 +137,33 @@ fn judge_words_rest(words: &[u32], from: usize, q: u32) -> u32
     let mut m = from;
     while m < words.len() {
         let Coefficient::Below(_) = bounded(words[m], q) else {
-            return 8;
+            return refusals::COEFFICIENT;
         };
         m += 1;
     }
     0
 }
 
-// 8 where a word is not below q, otherwise 0.
-pub fn judge_words(words: &[u32], q: u32) -> u32
+// The words from a place on, where those before it fit: 32 at a time, then one by one.
+fn judge_words_from(words: &[u32], from: usize, q: u32) -> u32
+    requires { ⌜ (from ≤ length (now words)) × (fitNumber q (take from (now words)) ≡ 0) ⌝ }
     ensures { λ r. ⌜ r ≡ fitNumber q (now (words .entry)) ⌝ }
 {
-    let mut m = 0;
+    let mut m = from;
     while words.len() - m >= 32 {
         let Coefficients::Below = several_of(words, m, q) else {
-            return 8;
+            return refusals::COEFFICIENT;
         };
         m += 32;
     }
     judge_words_rest(words, m, q)
+}
+
+// 8 where a word is not below q, otherwise 0.
+pub fn judge_words(words: &[u32], q: u32) -> u32
+    ensures { λ r. ⌜ r ≡ fitNumber q (now (words .entry)) ⌝ }
+{
+    judge_words_from(words, 0, q)
 }
 
 // The bits that are set in any of 128 words from place m on: below a power of two where all of them are.
@@ -180,9 +189,9 @@ pub fn judge_small(words: &[u32], b: u32) -> u32
     let mut m = 0;
     while words.len() - m >= 128 {
         let Coefficient::Below(_) = bounded(bits_of(words, m), l) else {
-            return 8;
+            return refusals::COEFFICIENT;
         };
         m += 128;
     }
-    judge_words_rest(words, m, l)
+    judge_words_from(words, m, l)
 }

@@ -5,6 +5,7 @@
 // specs/Lanes.antt. A group is added up in four lanes, of every fourth coefficient each, since the compiler then adds whole rows of four at
 // once. The loops are written
 // once, with b as a variable, and called with a constant, so that the compiler makes a loop for each b.
+use parameters::refusals;
 ghost use mathlib.Core.Path.{_≡_};
 ghost use mathlib.Core.Bool.{true};
 ghost use mathlib.Core.List.{_++_};
@@ -23,7 +24,7 @@ pub fn padding(octets: &[u8], used: usize) -> u32
     let mut i = used / 8;
     while i < octets.len() {
         if octets[i] >> shift != 0 {
-            return 7;
+            return refusals::PADDING;
         }
         shift = 0;
         i += 1;

@@ -7,10 +7,11 @@ use native.Mathlib.Nat.{le-div-iff-mul-le, lt-of-le-of-lt, mul-le-mul-left}
 use native.Mathlib.Omega.{arith}
 use borrow.Author.Needs.{needs}
 use lib.ListN.{length}
-use Rattle.definitions.specs.Octets.{decoded}
+use Rattle.definitions.specs.Sequences.{tabulate}
+use Rattle.definitions.specs.Octets.{coefficientAt, decoded}
 use Rattle.judging.specs.Reading.{readingsNumber, fitNumber}
-use Rattle.judging.proofs.Judged.{fitNumber-fits}
-use Rattle.judging.proofs.Laws.{fitNumber-none, fitNumber-decoded-more, fitNumber-decoded-part, fitNumber-refused, places-count}
+use Rattle.judging.proofs.Judged.{fitNumber-fits, fitNumber-refused}
+use Rattle.judging.proofs.Laws.{fitNumber-none, fitNumber-decoded-more, fitNumber-decoded-part, places-count}
 use Rattle.judging.proofs.judge_by.Statement.{statement}
 use Rattle.judging.proofs.judge_by.Tie as tie
 
@@ -61,9 +62,10 @@ returns c =
     let s = c .before .before .before .before .before .before in
     let l = c .before .before .before .before .loop in
     let inside : l .m + 64 ≤ length (s .args .octets .now) / s .args .qlen = le-div-iff-mul-le (s .pre .0) .1 (more (c .before .before .before)) in
+    let eight : fitNumber (s .args .q) (tabulate 64 (λ k. coefficientAt (s .args .qlen) (s .args .octets .now) (l .m + k))) ≡ 8 = sym (c .before .before .several-at .ensures) ∙ ap readingsNumber (c .enum-told2 .given .1) in
     sym
     (fitNumber-decoded-part (s .args .q) (s .args .qlen) (s .args .octets .now) (l .m) 64 _ inside
-    (fitNumber-refused (s .args .q) _ (sym (c .before .before .several-at .ensures) ∙ ap readingsNumber (c .enum-told2 .given .1))))
+    (fitNumber-refused (s .args .q) _ (omega (arith, eight))))
 
 add-m : tie.Need-add-m Inv-loop μ-loop
 add-m c = omega (arith, few (c .before .before .before))

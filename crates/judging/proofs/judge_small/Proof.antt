@@ -58,15 +58,15 @@ loop-again c =
     let found = rw (shifted (s .args .b) (s .pre)) at (sym (c .before .before .bounded .ensures) ∙ ap readingAs (c .enum-told .given .1)) in
     (omega arith, fitNumber-take-more (2 ^ s .args .b) (s .args .words .now) (l .m) 128 (l .inv .1) (bits-below (2 ^ s .args .b) _ _ (c .before .before .before .bits-of .ensures (s .args .b)) found))
 
-judge-words-rest-requires : tie.Need-judge-words-rest-requires Inv-loop μ-loop
-judge-words-rest-requires c κs =
+judge-words-from-requires : tie.Need-judge-words-from-requires Inv-loop μ-loop
+judge-words-from-requires c κs =
     let s = c .before .before .before in
     rw (shifted (s .args .b) (s .pre)) (c .before .loop .inv)
 
 returns-2 : tie.Need-returns-2 Inv-loop μ-loop
 returns-2 c =
     let s = c .before .before .before .before in
-    rw (shifted (s .args .b) (s .pre)) at (c .judge-words-rest .ensures)
+    rw (shifted (s .args .b) (s .pre)) at (c .judge-words-from .ensures)
 
 pub judge-small-spec : {M : Type 1} → statement M
 judge-small-spec =
@@ -85,5 +85,5 @@ judge-small-spec =
     add-m
     loop-less
     loop-again
-    judge-words-rest-requires
+    judge-words-from-requires
     returns-2)
