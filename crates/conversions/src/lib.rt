@@ -23,9 +23,9 @@ fn elements_from_octets(p: Parameters, elements: usize, octets: &[u8], words: &m
         return refusals::LENGTH;
     }
     let qlen = lengths::octets_of_coefficient(p.q);
-    let refused = judging::judge(octets, qlen, p.q);
-    if refused != 0 {
-        return refused;
+    let judged_octets = judging::judge(octets, qlen, p.q);
+    if judged_octets != 0 {
+        return judged_octets;
     }
     octets::decode(octets, qlen, words);
     0
@@ -42,9 +42,9 @@ fn elements_to_octets(p: Parameters, elements: usize, words: &[u32], octets: &mu
     if octets.len() != lengths::elements_length(p, elements) {
         return refusals::LENGTH;
     }
-    let refused = judging::judge_words(words, p.q);
-    if refused != 0 {
-        return refused;
+    let judged_words = judging::judge_words(words, p.q);
+    if judged_words != 0 {
+        return judged_words;
     }
     octets::encode(words, lengths::octets_of_coefficient(p.q), octets);
     0

@@ -260,13 +260,13 @@ pub bits-step : (b bits : ℕ) (words : List ℕ) (m k : ℕ) → m + k < length
 bits-step b bits words m k h e =
     rw (part-snoc words m k h, coefficientsFit-snoc (2 ^ b) (take k (drop m words)) (getD words (m + k) 0), ← e) (or-ltb b bits (getD words (m + k) 0))
 
--- what reading the bits tells of the words
-module _ (q r : ℕ) (xs : List ℕ) (e : ltb r q ≡ coefficientsFit q xs) where
-  pub bits-below : {v : ℕ} → coefficientAnswer q r ≡ accepted v → coefficientsFit q xs ≡ true
-  bits-below {v} f = sym e ∙ sym (coefficientsFit-one q r) ∙ reading-below q r v f
+-- what the bits tell of the words
+module _ (q bits : ℕ) (xs : List ℕ) (e : ltb bits q ≡ coefficientsFit q xs) where
+  pub bits-below : bits < q → 0 ≡ fitNumber q xs
+  bits-below h = sym (fitNumber-zero q xs (sym e ∙ lt-ltb bits q h))
 
-  pub bits-large : coefficientAnswer q r ≡ refused 8 → coefficientsFit q xs ≡ false
-  bits-large f = sym e ∙ sym (coefficientsFit-one q r) ∙ reading-large q r f
+  pub bits-large : q ≤ bits → 8 ≡ fitNumber q xs
+  bits-large h = sym (fitNumber-eight q xs (sym e ∙ le-ltb bits q h))
 
 -- the limit, made by a shift
 pub shifted : (b : ℕ) → b ≤ 4 → 1 * 2 ^ b % 4294967296 ≡ 2 ^ b

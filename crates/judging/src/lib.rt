@@ -1,14 +1,13 @@
 // Whether given coefficients fit (01, "Refusal table", number 8): octets and words are judged, and 8 is answered where one is not below the
 // limit. A judge reads several coefficients at a time, returns at the first of these where one is too large, and reads what is left one by
-// one. The contracts cite specs/Reading.antt and the definitions' coefficientAt, decoded and coefficientsFit. The loop over octets is written once, with qlen as a variable, and called with
-// a constant, so that the compiler makes a loop for each qlen.
+// one. The contracts cite specs/Reading.antt and the definitions' coefficientAt and decoded. The loop over octets is written once, with
+// qlen as a variable, and called with a constant, so that the compiler makes a loop for each qlen.
 use parameters::refusals;
 ghost use mathlib.Core.Path.{_≡_};
 ghost use Prim.Native.Nat.{ℕ, _+_, _*_, _/_, _^_, _≤_};
-ghost use lib.Dec.{ltb};
 ghost use lib.ListN.{length, take, drop};
 ghost use Rattle.definitions.specs.Sequences.{tabulate};
-ghost use Rattle.definitions.specs.Octets.{coefficientAt, decoded, coefficientsFit};
+ghost use Rattle.definitions.specs.Octets.{coefficientAt, decoded};
 ghost use Rattle.judging.specs.Reading.{readingAs, coefficientAnswer, readingsNumber, fitNumber};
 
 // What reading a coefficient finds: its value, or that it is too large.
@@ -166,18 +165,23 @@ pub fn judge_words(words: &[u32], q: u32) -> u32
     judge_words_from(words, 0, q)
 }
 
-// The bits that are set in any of 128 words from place m on: below a power of two where all of them are.
-fn bits_of(words: &[u32], m: usize) -> u32
-    requires { ⌜ m + 128 ≤ length (now words) ⌝ }
-    ensures { λ r. ⌜ ((b : ℕ) → ltb r (2 ^ b) ≡ coefficientsFit (2 ^ b) (take 128 (drop m (now (words .entry))))) ⌝ }
+// 128 words from place m on, against 2^b: a number is below it just where its bits are, and so are the bits of all of them together.
+fn several_small(words: &[u32], m: usize, b: u32) -> Coefficients
+    requires { ⌜ (b ≤ 4) × (m + 128 ≤ length (now words)) ⌝ }
+    ensures { λ r. ⌜ readingsNumber r ≡ fitNumber (2 ^ b) (take 128 (drop m (now (words .entry)))) ⌝ }
 {
+    let l: u32 = 1 << b;
     let mut bits: u32 = 0;
     let mut k = 0;
     while k < 128 {
         bits |= words[m + k];
         k += 1;
     }
-    bits
+    if bits < l {
+        Coefficients::Below
+    } else {
+        Coefficients::TooLarge
+    }
 }
 
 // 8 where a word is not below 2^b, otherwise 0.
@@ -185,13 +189,12 @@ pub fn judge_small(words: &[u32], b: u32) -> u32
     requires { ⌜ b ≤ 4 ⌝ }
     ensures { λ r. ⌜ r ≡ fitNumber (2 ^ b) (now (words .entry)) ⌝ }
 {
-    let l: u32 = 1 << b;
     let mut m = 0;
     while words.len() - m >= 128 {
-        let Coefficient::Below(_) = bounded(bits_of(words, m), l) else {
+        let Coefficients::Below = several_small(words, m, b) else {
             return refusals::COEFFICIENT;
         };
         m += 128;
     }
-    judge_words_from(words, m, l)
+    judge_words_from(words, m, 1 << b)
 }

@@ -22,6 +22,8 @@ use Rattle.definitions.specs.Monomials.{Monomial, Polynomial, monomialAt, sameM
 use Rattle.definitions.proofs.Sums.{sum-cong, length-tabulate}
 use Rattle.definitions.proofs.Ring.{conv-cong}
 use Rattle.definitions.proofs.Monomials.{monomials-degree, sameMonomial-other}
+use Rattle.monomials.specs.Pairs.{monomialFrom}
+use Rattle.monomials.specs.declared.Exponents.{Exponents}
 use Rattle.ring.specs.Work.{part, written}
 use Rattle.ring.proofs.Work.{part-written, getD-written-before, getD-written, getD-written-after, length-written, length-written-tabulate}
 use Rattle.values.specs.Folding.{flat}
@@ -47,22 +49,23 @@ pub sameMonomial-cases : (a b c : Monomial) → (sameMonomial a b c ≡ 0) ⊎ (
 unfolding sameMonomial
 sameMonomial-cases a b c = flag-cases (eqb (a .x + b .x) (c .x) && eqb (a .y + b .y) (c .y))
 
-pub sameMonomial-other-x : (a b c : Monomial) → (a .x + b .x ≡ c .x → ⊥) → sameMonomial a b c ≡ 0
-sameMonomial-other-x a b c h = sameMonomial-other a b c (λ e. h (ap (λ (m : Monomial). m .x) e))
+-- what a pair of exponents tells of the monomial that it names
+pub exponents-small : (e : Exponents) (d i : ℕ) → monomialFrom e ≡ monomialAt d i → (e .x ≤ d) × (e .y ≤ d)
+exponents-small e d i same =
+    let x : e .x ≡ monomialAt d i .x = ap (λ (m : Monomial). m .x) same in
+    let y : e .y ≡ monomialAt d i .y = ap (λ (m : Monomial). m .y) same in
+    (omega (arith, x, monomials-degree d i), omega (arith, y, monomials-degree d i))
 
-pub sameMonomial-other-y : (a b c : Monomial) → (a .y + b .y ≡ c .y → ⊥) → sameMonomial a b c ≡ 0
-sameMonomial-other-y a b c h = sameMonomial-other a b c (λ e. h (ap (λ (m : Monomial). m .y) e))
+module _ {a b c : Exponents} {f g h : Monomial} (e1 : monomialFrom a ≡ f) (e2 : monomialFrom b ≡ g) (e3 : monomialFrom c ≡ h) where
+  pub exponents-other-x : (a .x + b .x ≡ c .x → ⊥) → 0 ≡ sameMonomial f g h
+  exponents-other-x z = rw (← e1, ← e2, ← e3) (sym (sameMonomial-other (monomialFrom a) (monomialFrom b) (monomialFrom c) (λ e. z (ap (λ (m : Monomial). m .x) e))))
 
-pub sameMonomial-both : (a b c : Monomial) → a .x + b .x ≡ c .x → a .y + b .y ≡ c .y → sameMonomial a b c ≡ 1
-unfolding sameMonomial
-sameMonomial-both a b c e f = rw (eq-eqb (a .x + b .x) (c .x) e, eq-eqb (a .y + b .y) (c .y) f)
+  pub exponents-other-y : (a .y + b .y ≡ c .y → ⊥) → 0 ≡ sameMonomial f g h
+  exponents-other-y z = rw (← e1, ← e2, ← e3) (sym (sameMonomial-other (monomialFrom a) (monomialFrom b) (monomialFrom c) (λ e. z (ap (λ (m : Monomial). m .y) e))))
 
--- exponents are small
-pub exponent-x-most : (d i : ℕ) → monomialAt d i .x ≤ d
-exponent-x-most d i = omega (arith, monomials-degree d i)
-
-pub exponent-y-most : (d i : ℕ) → monomialAt d i .y ≤ d
-exponent-y-most d i = omega (arith, monomials-degree d i)
+  pub exponents-both : a .x + b .x ≡ c .x → a .y + b .y ≡ c .y → 1 ≡ sameMonomial f g h
+  unfolding sameMonomial
+  exponents-both x y = rw (← e1, ← e2, ← e3, eq-eqb (a .x + b .x) (c .x) x, eq-eqb (a .y + b .y) (c .y) y)
 
 pub sum-none : (f : ℕ → ℕ) → sum 0 f ≡ 0
 unfolding sum

@@ -19,11 +19,13 @@ pub fn same_monomial(dx: usize, i: usize, dr: usize, j: usize, m: usize) -> u32
     requires { ⌜ (dx ≤ 2) × (dr ≤ 2) × (i < monomialCount dx) × (j < monomialCount dr) × (m < monomialCount (dx + dr)) ⌝ }
     ensures { λ r. ⌜ r ≡ sameMonomial (monomialAt dx i) (monomialAt dr j) (monomialAt (dx + dr) m) ⌝ }
 {
-    let d = dx + dr;
-    if monomials::exponent_x(dx, i) + monomials::exponent_x(dr, j) != monomials::exponent_x(d, m) {
+    let of_key = monomials::monomial(dx, i);
+    let of_mask = monomials::monomial(dr, j);
+    let product = monomials::monomial(dx + dr, m);
+    if of_key.x + of_mask.x != product.x {
         return 0;
     }
-    if monomials::exponent_y(dx, i) + monomials::exponent_y(dr, j) != monomials::exponent_y(d, m) {
+    if of_key.y + of_mask.y != product.y {
         return 0;
     }
     1

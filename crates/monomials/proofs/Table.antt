@@ -2,8 +2,8 @@
 -- Assumes nothing.
 use Prim.Native.Nat.{ℕ, _+_, _-_, _<_}
 use native.Mathlib.Omega.{arith}
-use mathlib.Core.Path.{_≡_, refl}
-use mathlib.Core.Bool.{Bool, true}
+use mathlib.Core.Path.{_≡_, refl, ap₂}
+use mathlib.Core.Bool.{Bool, true, _&&_}
 use mathlib.Core.List.{List, [], _∷_}
 use borrow.Author.Tests.{eqb-true}
 use lib.Dec.{eqb}
@@ -12,12 +12,15 @@ use Rattle.definitions.specs.Sequences.{every, tabulate}
 use Rattle.definitions.specs.Parameters.{monomialCount}
 use Rattle.definitions.specs.Monomials.{Monomial, ofDegree, monomials, monomialAt}
 use Rattle.definitions.proofs.Sums.{every-at}
+use Rattle.definitions.proofs.Tests.{both-true}
+use Rattle.monomials.specs.declared.Exponents.{Exponents}
+use Rattle.monomials.specs.Pairs.{monomialFrom}
 
-abbrev pub exponentsX : List ℕ
-exponentsX = 4 ∷ 3 ∷ 2 ∷ 1 ∷ 0 ∷ 3 ∷ 2 ∷ 1 ∷ 0 ∷ 2 ∷ 1 ∷ 0 ∷ 1 ∷ 0 ∷ 0 ∷ []
+abbrev pair : ℕ → ℕ → Exponents
+pair x y = record { x = x; y = y }
 
-abbrev pub exponentsY : List ℕ
-exponentsY = 0 ∷ 1 ∷ 2 ∷ 3 ∷ 4 ∷ 0 ∷ 1 ∷ 2 ∷ 3 ∷ 0 ∷ 1 ∷ 2 ∷ 0 ∷ 1 ∷ 0 ∷ []
+abbrev pub pairs : List Exponents
+pairs = pair 4 0 ∷ pair 3 1 ∷ pair 2 2 ∷ pair 1 3 ∷ pair 0 4 ∷ pair 3 0 ∷ pair 2 1 ∷ pair 1 2 ∷ pair 0 3 ∷ pair 2 0 ∷ pair 1 1 ∷ pair 0 2 ∷ pair 1 0 ∷ pair 0 1 ∷ pair 0 0 ∷ []
 
 abbrev pub starts : List ℕ
 starts = 14 ∷ 12 ∷ 9 ∷ 5 ∷ 0 ∷ []
@@ -34,23 +37,25 @@ pub start-at : (d : ℕ) → d < 5 → getD starts d 0 + monomialCount d ≡ 15
 unfolding startRight
 start-at d l = eqb-true _ _ (every-at 5 startRight starts-right l)
 
--- a column of the table: at each place of each degree's list the exponent of its monomial
-columnRight : List ℕ → (Monomial → ℕ) → ℕ → ℕ → Bool
-columnRight table exponent d i = eqb (getD table (15 - monomialCount d + i) 0) (exponent (monomialAt d i))
+-- the pairs: at each place of each degree's list the exponents of its monomial
+sameExponents : Monomial → Monomial → Bool
+sameExponents a b = eqb (a .x) (b .x) && eqb (a .y) (b .y)
 
-abbrev TableRight : List ℕ → (Monomial → ℕ) → Type 0
-TableRight table exponent = every 5 (λ d. every (monomialCount d) (columnRight table exponent d)) ≡ true
+same-exponents : (a b : Monomial) → sameExponents a b ≡ true → a ≡ b
+unfolding sameExponents
+same-exponents a b e =
+    let t = both-true (eqb (a .x) (b .x)) (eqb (a .y) (b .y)) e in
+    ap₂ (λ (x y : ℕ). record { x = x; y = y }) (eqb-true _ _ (t .0)) (eqb-true _ _ (t .1))
 
-table-at : (table : List ℕ) (exponent : Monomial → ℕ) → TableRight table exponent → (at d i : ℕ) → at + monomialCount d ≡ 15 → d < 5 → i < monomialCount d → getD table (at + i) 0 ≡ exponent (monomialAt d i)
-unfolding columnRight
-table-at table exponent t at d i e l s =
+pairRight : ℕ → ℕ → Bool
+pairRight d i = sameExponents (monomialFrom (getD pairs (15 - monomialCount d + i) (pair 0 0))) (monomialAt d i)
+
+pairs-right : every 5 (λ d. every (monomialCount d) (pairRight d)) ≡ true
+unfolding every pairRight sameExponents monomialCount monomialAt monomials ofDegree tabulate
+pairs-right = refl
+
+pub pair-at : (at d i : ℕ) → at + monomialCount d ≡ 15 → d < 5 → i < monomialCount d → monomialFrom (getD pairs (at + i) (pair 0 0)) ≡ monomialAt d i
+unfolding pairRight
+pair-at at d i e l s =
     let start : at ≡ 15 - monomialCount d = omega arith in
-    rw start (eqb-true _ _ (every-at (monomialCount d) (columnRight table exponent d) (every-at 5 (λ d. every (monomialCount d) (columnRight table exponent d)) t l) s))
-
-pub x-at : (at d i : ℕ) → at + monomialCount d ≡ 15 → d < 5 → i < monomialCount d → getD exponentsX (at + i) 0 ≡ monomialAt d i .x
-unfolding every columnRight monomialCount monomialAt monomials ofDegree tabulate
-x-at = table-at exponentsX (λ m. m .x) refl
-
-pub y-at : (at d i : ℕ) → at + monomialCount d ≡ 15 → d < 5 → i < monomialCount d → getD exponentsY (at + i) 0 ≡ monomialAt d i .y
-unfolding every columnRight monomialCount monomialAt monomials ofDegree tabulate
-y-at = table-at exponentsY (λ m. m .y) refl
+    rw start (same-exponents _ _ (every-at (monomialCount d) (pairRight d) (every-at 5 (λ d. every (monomialCount d) (pairRight d)) pairs-right l) s))

@@ -1,15 +1,36 @@
 // The order of the monomials (01, "Ring, monomials, octets", second paragraph): by falling total degree, then by falling power of x.
-// The list of degree 4 is a table of exponent pairs, and the list of a lower degree is its tail. Contracts cite `monomialCount`
-// and `monomialAt`. Nothing is refused: callers keep the degree to 4 and the place to the list.
+// The list of degree 4 is a table of exponent pairs, and the list of a lower degree is its tail. Contracts cite the definitions'
+// `monomialCount` and `monomialAt`. Nothing is refused: callers keep the degree to 4 and the place to the list.
 ghost use mathlib.Core.Path.{_≡_};
 ghost use Prim.Native.Nat.{_+_, _≤_, _<_};
 ghost use Rattle.definitions.specs.Parameters.{monomialCount};
 ghost use Rattle.definitions.specs.Monomials.{monomialAt};
+ghost use Rattle.monomials.specs.Pairs.{monomialFrom};
 
-// The exponents of x and of y of the 15 monomials of degree at most 4.
-const EXPONENTS_X: [u8; 15] = [4, 3, 2, 1, 0, 3, 2, 1, 0, 2, 1, 0, 1, 0, 0];
+// A monomial, by its exponents of x and of y.
+pub struct Exponents {
+    pub x: usize,
+    pub y: usize,
+}
 
-const EXPONENTS_Y: [u8; 15] = [0, 1, 2, 3, 4, 0, 1, 2, 3, 0, 1, 2, 0, 1, 0];
+// The 15 monomials of degree at most 4.
+const PAIRS: [Exponents; 15] = [
+    Exponents { x: 4, y: 0 },
+    Exponents { x: 3, y: 1 },
+    Exponents { x: 2, y: 2 },
+    Exponents { x: 1, y: 3 },
+    Exponents { x: 0, y: 4 },
+    Exponents { x: 3, y: 0 },
+    Exponents { x: 2, y: 1 },
+    Exponents { x: 1, y: 2 },
+    Exponents { x: 0, y: 3 },
+    Exponents { x: 2, y: 0 },
+    Exponents { x: 1, y: 1 },
+    Exponents { x: 0, y: 2 },
+    Exponents { x: 1, y: 0 },
+    Exponents { x: 0, y: 1 },
+    Exponents { x: 0, y: 0 },
+];
 
 // Where the list of each degree starts in it: 15 less the number of its monomials.
 const START: [u8; 5] = [14, 12, 9, 5, 0];
@@ -30,18 +51,10 @@ pub fn count(d: usize) -> usize
     15 - start(d)
 }
 
-// The exponent of x of the monomial at place i of degree d's list.
-pub fn exponent_x(d: usize, i: usize) -> usize
+// The monomial at place i of degree d's list.
+pub fn monomial(d: usize, i: usize) -> Exponents
     requires { ⌜ (d ≤ 4) × (i < monomialCount d) ⌝ }
-    ensures { λ r. ⌜ r ≡ monomialAt d i .x ⌝ }
+    ensures { λ r. ⌜ monomialFrom r ≡ monomialAt d i ⌝ }
 {
-    EXPONENTS_X[start(d) + i] as usize
-}
-
-// The exponent of y.
-pub fn exponent_y(d: usize, i: usize) -> usize
-    requires { ⌜ (d ≤ 4) × (i < monomialCount d) ⌝ }
-    ensures { λ r. ⌜ r ≡ monomialAt d i .y ⌝ }
-{
-    EXPONENTS_Y[start(d) + i] as usize
+    PAIRS[start(d) + i]
 }

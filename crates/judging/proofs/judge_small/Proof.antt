@@ -1,24 +1,22 @@
--- `judging::judge_small` is right because the words before each place fit, the bits of many words tell whether all of them fit, and the rest is
--- judged behind them.
+-- `judging::judge_small` is right because the words before each place fit, several that do not fit settle the answer, and the rest is judged
+-- behind them.
 -- Assumes nothing.
 use Prim.Native.Nat.{_-_, _^_, _≤_}
 use mathlib.Core.Path.{_≡_, sym, ap, _∙_}
 use native.Mathlib.Omega.{arith}
 use borrow.Author.Needs.{needs}
-use lib.ListN.{length, take}
-use Rattle.judging.specs.Reading.{readingAs, fitNumber}
-use Rattle.judging.proofs.Laws.{fitNumber-nil, fitNumber-take-more, fitNumber-take-part, bits-below, bits-large, shifted}
+use lib.ListN.{length, take, drop}
+use Rattle.judging.specs.Reading.{readingsNumber, fitNumber}
+use Rattle.judging.proofs.Judged.{fitNumber-fits, fitNumber-refused}
+use Rattle.judging.proofs.Laws.{fitNumber-nil, fitNumber-take-more, fitNumber-take-part, shifted}
 use Rattle.judging.proofs.judge_small.Statement.{statement}
 use Rattle.judging.proofs.judge_small.Tie as tie
 
 abbrev Inv-loop : tie.InvT-loop
-Inv-loop words b l m₀ m = (m ≤ length words) × (fitNumber (2 ^ b) (take m words) ≡ 0)
+Inv-loop words b m₀ m = (m ≤ length words) × (fitNumber (2 ^ b) (take m words) ≡ 0)
 
 abbrev μ-loop : tie.MeasureT-loop
-μ-loop words b l m₀ m = length words - m
-
-shl-l : tie.Need-shl-l Inv-loop μ-loop
-shl-l c = omega arith
+μ-loop words b m₀ m = length words - m
 
 loop-holds : tie.Need-loop-holds Inv-loop μ-loop
 loop-holds c = (omega arith, fitNumber-nil (2 ^ c .before .args .b))
@@ -26,11 +24,8 @@ loop-holds c = (omega arith, fitNumber-nil (2 ^ c .before .args .b))
 sub-loop : tie.Need-sub-loop Inv-loop μ-loop
 sub-loop c = omega arith
 
-bits-of-requires : tie.Need-bits-of-requires Inv-loop μ-loop
-bits-of-requires c κs = omega arith
-
-bounded-requires : tie.Need-bounded-requires Inv-loop μ-loop
-bounded-requires c κs = search needs
+several-small-requires : tie.Need-several-small-requires Inv-loop μ-loop
+several-small-requires c κs = (omega arith, omega arith)
 
 enum-told : tie.Need-enum-told Inv-loop μ-loop
 enum-told c = search needs
@@ -40,10 +35,10 @@ enum-told-2 c = search needs
 
 returns : tie.Need-returns Inv-loop μ-loop
 returns c =
-    let s = c .before .before .before .before .before .before .before in
-    let m = c .before .before .before .before .before .loop .m in
-    let found = rw (shifted (s .args .b) (s .pre)) at (sym (c .before .before .bounded .ensures) ∙ ap readingAs (c .enum-told2 .given .1)) in
-    sym (fitNumber-take-part (2 ^ s .args .b) (s .args .words .now) m 128 (bits-large (2 ^ s .args .b) _ _ (c .before .before .before .bits-of .ensures (s .args .b)) found))
+    let a = c .before .before .before .before .before .before .args in
+    let m = c .before .before .before .before .loop .m in
+    let eight : fitNumber (2 ^ a .b) (take 128 (drop m (a .words .now))) ≡ 8 = sym (c .before .before .several-small .ensures) ∙ ap readingsNumber (c .enum-told2 .given .1) in
+    sym (fitNumber-take-part (2 ^ a .b) (a .words .now) m 128 (fitNumber-refused (2 ^ a .b) _ (omega (arith, eight))))
 
 add-m : tie.Need-add-m Inv-loop μ-loop
 add-m c = omega arith
@@ -53,15 +48,15 @@ loop-less c = omega arith
 
 loop-again : tie.Need-loop-again Inv-loop μ-loop
 loop-again c =
-    let s = c .before .before .before .before .before .before .before in
-    let l = c .before .before .before .before .before .loop in
-    let found = rw (shifted (s .args .b) (s .pre)) at (sym (c .before .before .bounded .ensures) ∙ ap readingAs (c .enum-told .given .1)) in
-    (omega arith, fitNumber-take-more (2 ^ s .args .b) (s .args .words .now) (l .m) 128 (l .inv .1) (bits-below (2 ^ s .args .b) _ _ (c .before .before .before .bits-of .ensures (s .args .b)) found))
+    let a = c .before .before .before .before .before .before .args in
+    let l = c .before .before .before .before .loop in
+    (omega arith, fitNumber-take-more (2 ^ a .b) (a .words .now) (l .m) 128 (l .inv .1) (fitNumber-fits (2 ^ a .b) _ (sym (c .before .before .several-small .ensures) ∙ ap readingsNumber (c .enum-told .given .1))))
+
+shl-judge-words-from : tie.Need-shl-judge-words-from Inv-loop μ-loop
+shl-judge-words-from c = omega arith
 
 judge-words-from-requires : tie.Need-judge-words-from-requires Inv-loop μ-loop
-judge-words-from-requires c κs =
-    let s = c .before .before .before in
-    rw (shifted (s .args .b) (s .pre)) (c .before .loop .inv)
+judge-words-from-requires c κs = rw (shifted (c .before .before .before .args .b) (c .before .before .before .pre)) (c .before .loop .inv)
 
 returns-2 : tie.Need-returns-2 Inv-loop μ-loop
 returns-2 c =
@@ -74,16 +69,15 @@ judge-small-spec =
     (tie.spec
     Inv-loop
     μ-loop
-    shl-l
     loop-holds
     sub-loop
-    bits-of-requires
-    bounded-requires
+    several-small-requires
     enum-told
     enum-told-2
     returns
     add-m
     loop-less
     loop-again
+    shl-judge-words-from
     judge-words-from-requires
     returns-2)
