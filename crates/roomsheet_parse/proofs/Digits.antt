@@ -16,8 +16,9 @@ use lib.Dec.{leb}
 use lib.ListN.{length, getD}
 use borrow.Author.Tests.{le-leb, lt-leb}
 use Rattle.definitions.specs.Sequences.{every}
+use Rattle.definitions.specs.Refusals.{firstRefusal, answer}
 use Rattle.definitions.specs.Roomsheet.{Text, isDigit, decimalFrom, decimal}
-use Rattle.roomsheet_parse.specs.Numbers.{digitsFit, fieldAt, readAs, digitsAt}
+use Rattle.roomsheet_parse.specs.Numbers.{numberAs, digitsFit, fieldAt, fieldAnswer, digitsAt}
 use Rattle.roomsheet_parse.specs.declared.Number.{Number}
 
 abbrev pub digitsRead : ℕ → Text → Bool
@@ -78,13 +79,13 @@ reading-start line from h =
 
 module _ (line : Text) (from value i : ℕ) (r : Reading line from value i) where
   -- the field ends here
-  pub reading-end : fieldAt line i ≡ [] → digitsAt line from ≡ Number.Value value i
-  unfolding digitsAt readAs decimalFrom
+  pub reading-end : fieldAt line i ≡ [] → numberAs (Number.Value value i) ≡ digitsAt line from
+  unfolding digitsAt fieldAnswer answer firstRefusal decimalFrom
   reading-end e = rw (r .fits, r .number, r .place, e, add-zero i)
 
   -- the octet here is no digit, or takes the number past the largest
-  pub reading-stop : (c : ℕ) (rest : Text) → fieldAt line i ≡ c ∷ rest → digitsRead value (c ∷ rest) ≡ false → digitsAt line from ≡ Number.Malformed
-  unfolding digitsAt readAs
+  pub reading-stop : (c : ℕ) (rest : Text) → fieldAt line i ≡ c ∷ rest → digitsRead value (c ∷ rest) ≡ false → numberAs Number.Malformed ≡ digitsAt line from
+  unfolding digitsAt fieldAnswer answer firstRefusal
   reading-stop c rest e f = rw (r .fits, e, f)
 
   pub reading-next : (c : ℕ) → fieldAt line i ≡ c ∷ fieldAt line (i + 1) → i < length line → isDigit c ≡ true → 10 * value + (c - 48) ≤ 4294967295 → Reading line from (10 * value + (c - 48)) (i + 1)

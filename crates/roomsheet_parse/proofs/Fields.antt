@@ -19,7 +19,7 @@ use borrow.Author.Tests.{le-leb, lt-leb, eq-eqb, ne-eqb, eqb-true}
 use Rattle.definitions.specs.Sequences.{every}
 use Rattle.definitions.specs.Roomsheet.{Text, split, decimal, isNumber, wellFormed, numbersOf}
 use Rattle.roomsheet_parse.specs.Parts.{upTo, past, Without}
-use Rattle.roomsheet_parse.specs.Numbers.{fieldAt, numberAt, NumbersRead}
+use Rattle.roomsheet_parse.specs.Numbers.{numberAs, fieldAt, numberAt, NumbersRead}
 use Rattle.roomsheet_parse.specs.declared.Number.{Number}
 use Rattle.roomsheet_parse.proofs.Parts.{length-upTo, upTo-whole, past-drop, split-last, split-more}
 use Rattle.roomsheet_parse.proofs.Digits.{every-cons}
@@ -134,14 +134,14 @@ module _ (line : Text) (count : ℕ) (before numbers : List ℕ) (at i : ℕ) (p
   progress-over h = refused-read line count numbers (judged 0 (omega arith) ∙ numbersFit-zero (drop at line))
 
   module _ (more : i < count) where
-    pub progress-spoiled : Number.Malformed ≡ numberAt line at → NumbersRead count line false numbers
+    pub progress-spoiled : numberAs Number.Malformed ≡ numberAt line at → NumbersRead count line false numbers
     unfolding numberAt
     progress-spoiled e =
         refused-read line count numbers
         (judged (suc (count - (i + 1))) (omega arith)
         ∙ numbersFit-spoiled (count - (i + 1)) (drop at line) (read-malformed (isNumber (fieldAt line at)) (fieldAt line at) at e))
 
-    module _ (value next : ℕ) (read : Number.Value value next ≡ numberAt line at) where
+    module _ (value next : ℕ) (read : numberAs (Number.Value value next) ≡ numberAt line at) where
       found : Read (isNumber (fieldAt line at)) (fieldAt line at) at value next
       unfolding numberAt
       found = read-value (isNumber (fieldAt line at)) (fieldAt line at) at value next read

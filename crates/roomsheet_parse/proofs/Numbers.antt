@@ -1,7 +1,7 @@
 -- A number of the grammar is digits that fit, at least one, and the first of several above zero.
 --
 --   isNumber-digits      that, as an equation of the test
---   read-value, read-malformed     what a read of digits tells about the field
+--   read-value, read-malformed     what each case of a read tells about the field
 --   number-..            what reading a number finds, by the same cases
 -- Assumes nothing.
 use Prim.Native.Nat.{ℕ, _+_, _≤_, _<_}
@@ -14,8 +14,9 @@ use lib.ListN.{length, getD, drop}
 use lib.Seq.{getD-take, getD-drop}
 use borrow.Author.Tests.{le-leb, lt-leb, ne-eqb}
 use Rattle.definitions.specs.Sequences.{every}
+use Rattle.definitions.specs.Refusals.{firstRefusal, answer}
 use Rattle.definitions.specs.Roomsheet.{Text, isDigit, decimal, isNumber}
-use Rattle.roomsheet_parse.specs.Numbers.{digitsFit, fieldAt, readAs, digitsAt, numberAt}
+use Rattle.roomsheet_parse.specs.Numbers.{NumberRead, numberAs, digitsFit, fieldAt, fieldAnswer, digitsAt, numberAt}
 use Rattle.roomsheet_parse.specs.declared.Number.{Number}
 use Rattle.roomsheet_parse.proofs.Parts.{take-upTo}
 
@@ -41,14 +42,16 @@ pub record Read (fits : Bool) (field : Text) (at value next : ℕ) : Type 0 wher
   pub value-is : value ≡ decimal field
   pub next-is : next ≡ at + length field
 
-pub read-value : (fits : Bool) (field : Text) (at value next : ℕ) → Number.Value value next ≡ readAs fits field at → Read fits field at value next
-unfolding readAs
-read-value true field at value next e = record { fits-is = refl; value-is = cc; next-is = cc }
-read-value false field at value next e = let z : _≡_ {A = ℕ} 0 1 = cc in let w : ⊥ = omega arith in absurd w
+pub read-value : (fits : Bool) (field : Text) (at value next : ℕ) → numberAs (Number.Value value next) ≡ fieldAnswer fits field at → Read fits field at value next
+unfolding fieldAnswer answer firstRefusal
+read-value true field at value next e =
+    let same : _≡_ {A = NumberRead} (record { value = value; next = next }) (record { value = decimal field; next = at + length field }) = cc in
+    record { fits-is = refl; value-is = ap (λ (n : NumberRead). n .value) same; next-is = ap (λ (n : NumberRead). n .next) same }
+read-value false field at value next e = record { fits-is = cc; value-is = cc; next-is = cc }
 
-pub read-malformed : (fits : Bool) (field : Text) (at : ℕ) → Number.Malformed ≡ readAs fits field at → fits ≡ false
-unfolding readAs
-read-malformed true field at e = let z : _≡_ {A = ℕ} 0 1 = cc in let w : ⊥ = omega arith in absurd w
+pub read-malformed : (fits : Bool) (field : Text) (at : ℕ) → numberAs Number.Malformed ≡ fieldAnswer fits field at → fits ≡ false
+unfolding fieldAnswer answer firstRefusal
+read-malformed true field at e = cc
 read-malformed false field at e = refl
 
 -- ---- a number, by the digits read
@@ -59,17 +62,17 @@ module _ (line : Text) (at : ℕ) where
       ap (λ (t : Text). getD t 0 0) (sym (take-upTo 32 (drop at line))) ∙ getD-take (length (fieldAt line at)) (drop at line) 0 0 h
       ∙ getD-drop at line 0 0 ∙ ap (λ (i : ℕ). getD line i 0) (add-zero at)
 
-  pub number-none : digitsFit (fieldAt line at) ≡ false → numberAt line at ≡ Number.Malformed
-  unfolding numberAt readAs
+  pub number-none : digitsFit (fieldAt line at) ≡ false → numberAs Number.Malformed ≡ numberAt line at
+  unfolding numberAt fieldAnswer answer firstRefusal
   number-none e =
       rw (isNumber-digits (fieldAt line at), e, and-false (firstFits (fieldAt line at)), and-false (leb 1 (length (fieldAt line at))))
 
-  pub number-empty : length (fieldAt line at) ≡ 0 → numberAt line at ≡ Number.Malformed
-  unfolding numberAt readAs
+  pub number-empty : length (fieldAt line at) ≡ 0 → numberAs Number.Malformed ≡ numberAt line at
+  unfolding numberAt fieldAnswer answer firstRefusal
   number-empty e = rw (isNumber-digits (fieldAt line at), e)
 
-  pub number-zero : 1 < length (fieldAt line at) → getD line at 0 ≤ 48 → numberAt line at ≡ Number.Malformed
-  unfolding numberAt readAs
+  pub number-zero : 1 < length (fieldAt line at) → getD line at 0 ≤ 48 → numberAs Number.Malformed ≡ numberAt line at
+  unfolding numberAt fieldAnswer answer firstRefusal
   number-zero many h =
       rw (
         isNumber-digits (fieldAt line at),

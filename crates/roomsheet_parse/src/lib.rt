@@ -1,10 +1,11 @@
 // Reading roomsheet's text (01, "roomsheet"): where a line ends, and its numbers, without sign or needless leading zero and at most
-// 4,294,967,295. A line that is no such list is told malformed. The contracts cite the definitions' wellFormed and numbersOf.
+// 4,294,967,295. A line that is no such list is told malformed: refusal 11. The contracts cite specs/Numbers.antt, which rests
+// on the definitions' isNumber, wellFormed and numbersOf.
 ghost use mathlib.Core.Path.{_≡_};
 ghost use Prim.Native.Nat.{_+_, _≤_};
 ghost use lib.ListN.{length, drop};
 ghost use Rattle.roomsheet_parse.specs.Parts.{upTo};
-ghost use Rattle.roomsheet_parse.specs.Numbers.{digitsAt, numberAt, NumbersRead};
+ghost use Rattle.roomsheet_parse.specs.Numbers.{numberAs, digitsAt, numberAt, NumbersRead};
 
 // What reading a number finds: the number and the place past it, or that it is malformed.
 pub enum Number {
@@ -42,7 +43,7 @@ pub fn find_newline(text: &[u8], from: usize) -> usize
 // The digits from a place to the next space or the end, and the number that they write.
 fn read_digits(line: &[u8], from: usize) -> Number
     requires { ⌜ from ≤ length (now line) ⌝ }
-    ensures { λ r. ⌜ r ≡ digitsAt (now (line .entry)) from ⌝ }
+    ensures { λ r. ⌜ numberAs r ≡ digitsAt (now (line .entry)) from ⌝ }
 {
     let mut value = 0u64;
     let mut i = from;
@@ -75,7 +76,7 @@ fn read_digits(line: &[u8], from: usize) -> Number
 // The number at a place: digits, at least one, and the first of several above zero.
 pub fn parse_number(line: &[u8], from: usize) -> Number
     requires { ⌜ from ≤ length (now line) ⌝ }
-    ensures { λ r. ⌜ r ≡ numberAt (now (line .entry)) from ⌝ }
+    ensures { λ r. ⌜ numberAs r ≡ numberAt (now (line .entry)) from ⌝ }
 {
     let read = read_digits(line, from);
     let Number::Value { value: _, next } = read else {

@@ -1,10 +1,10 @@
 -- `parse_number` meets its contract: the digits read are a number where there is one, or several with the first above zero.
 -- Assumes nothing.
-use mathlib.Core.Path.{_≡_, sym, _∙_}
+use mathlib.Core.Path.{_≡_, sym, ap, _∙_}
 use native.Mathlib.Omega.{arith}
 use lib.ListN.{drop, length-drop}
 use borrow.Author.Needs.{needs}
-use Rattle.roomsheet_parse.specs.Numbers.{digitsFit, fieldAt, digitsAt}
+use Rattle.roomsheet_parse.specs.Numbers.{numberAs, digitsFit, fieldAt, digitsAt}
 use Rattle.roomsheet_parse.specs.declared.Number.{Number}
 use Rattle.roomsheet_parse.proofs.Parts.{length-upTo}
 use Rattle.roomsheet_parse.proofs.Numbers.{Read, read-value, read-malformed, number-none, number-empty, number-zero, number-one, number-many}
@@ -13,9 +13,9 @@ use Rattle.roomsheet_parse.proofs.parse_number.Tie as tie
 
 -- what was read is what `read_digits` answers
 read-told : (c : tie.After-known-told) →
-    Number.Value (c .before .read .given .0 .0) (c .before .read .given .0 .1 .0)
+    numberAs (Number.Value (c .before .read .given .0 .0) (c .before .read .given .0 .1 .0))
     ≡ digitsAt (c .before .before .before .before .before .args .line .now) (c .before .before .before .before .before .args .from)
-read-told c = sym (c .before .read .given .1) ∙ c .before .before .before .read-digits .ensures
+read-told c = ap numberAs (sym (c .before .read .given .1)) ∙ c .before .before .before .read-digits .ensures
 
 read-at : (c : tie.After-known-told) →
     Read (digitsFit (fieldAt (c .before .before .before .before .before .args .line .now) (c .before .before .before .before .before .args .from)))
@@ -38,12 +38,11 @@ enum-told c = search needs
 returns : tie.Need-returns
 unfolding digitsAt
 returns c =
-    sym
-    (number-none _ _
-    (read-malformed _ _ _ (sym (c .enum-told .given .1) ∙ c .before .before .read-digits .ensures)))
+    number-none _ _
+    (read-malformed _ _ _ (ap numberAs (sym (c .enum-told .given .1)) ∙ c .before .before .read-digits .ensures))
 
 returns-2 : tie.Need-returns-2
-returns-2 c = sym (number-empty _ _ (omega (arith, read-at (c .before))))
+returns-2 c = number-empty _ _ (omega (arith, read-at (c .before)))
 
 add-if2 : tie.Need-add-if2
 add-if2 c = search needs
@@ -61,7 +60,7 @@ shared-slice-read-if3 c =
 returns-4 : tie.Need-returns-4
 returns-4 c =
     let r = read-at (c .before .before .before .before) in
-    sym (number-zero _ _ (omega arith) (c .if3 .taken))
+    number-zero _ _ (omega arith) (c .if3 .taken)
 
 returns-5 : tie.Need-returns-5
 returns-5 c =

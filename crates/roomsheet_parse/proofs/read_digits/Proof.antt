@@ -1,7 +1,6 @@
 -- `read_digits` meets its contract: at each place the digits so far and their number stand for the front of the field.
 -- Assumes nothing.
 use Prim.Native.Nat.{_-_}
-use mathlib.Core.Path.{sym}
 use native.Mathlib.Omega.{arith}
 use lib.ListN.{length}
 use borrow.Author.Tests.{le-leb, lt-leb}
@@ -27,23 +26,19 @@ cast-t10 c = omega arith
 
 returns : tie.Need-returns Inv-loop μ-loop
 returns c =
-    sym
-    (reading-end _ _ _ _ (c .before .before .before .loop .inv)
-    (upTo-drop-hit 32 _ _ (c .before .before .loop-test .taken) (c .if1 .taken)))
+    reading-end _ _ _ _ (c .before .before .before .loop .inv)
+    (upTo-drop-hit 32 _ _ (c .before .before .loop-test .taken) (c .if1 .taken))
 
 returns-2 : tie.Need-returns-2 Inv-loop μ-loop
 returns-2 c =
-    let d = c .before .before .before .before .loop .i in
-    sym
-    (reading-stop _ _ _ _ (c .before .before .before .before .loop .inv) _ _
-    (upTo-drop-miss 32 _ _ (c .before .before .before .loop-test .taken) (c .before .if1 .left)) (rw (lt-leb _ _ (c .if2 .taken))))
+    reading-stop _ _ _ _ (c .before .before .before .before .loop .inv) _ _
+    (upTo-drop-miss 32 _ _ (c .before .before .before .loop-test .taken) (c .before .if1 .left)) (rw (lt-leb _ _ (c .if2 .taken)))
 
 returns-3 : tie.Need-returns-3 Inv-loop μ-loop
 returns-3 c =
-    sym
-    (reading-stop _ _ _ _ (c .before .before .before .before .before .loop .inv) _ _
+    reading-stop _ _ _ _ (c .before .before .before .before .before .loop .inv) _ _
     (upTo-drop-miss 32 _ _ (c .before .before .before .before .loop-test .taken) (c .before .before .if1 .left))
-    (rw (le-leb _ _ (c .before .if2 .left), lt-leb _ _ (c .if3 .taken))))
+    (rw (le-leb _ _ (c .before .if2 .left), lt-leb _ _ (c .if3 .taken)))
 
 mul-value : tie.Need-mul-value Inv-loop μ-loop
 mul-value c = omega arith
@@ -56,10 +51,9 @@ add-value c = omega arith
 
 returns-4 : tie.Need-returns-4 Inv-loop μ-loop
 returns-4 c =
-    sym
-    (reading-stop _ _ _ _ (c .before .before .before .before .before .before .loop .inv) _ _
+    reading-stop _ _ _ _ (c .before .before .before .before .before .before .loop .inv) _ _
     (upTo-drop-miss 32 _ _ (c .before .before .before .before .before .loop-test .taken) (c .before .before .before .if1 .left))
-    (rw (le-leb _ _ (c .before .before .if2 .left), le-leb _ _ (c .before .if3 .left), lt-leb _ _ (c .if4 .taken))))
+    (rw (le-leb _ _ (c .before .before .if2 .left), le-leb _ _ (c .before .if3 .left), lt-leb _ _ (c .if4 .taken)))
 
 add-i : tie.Need-add-i Inv-loop μ-loop
 add-i c = omega arith
@@ -79,7 +73,7 @@ cast-t13 : tie.Need-cast-t13 Inv-loop μ-loop
 cast-t13 c = omega arith
 
 returns-5 : tie.Need-returns-5 Inv-loop μ-loop
-returns-5 c = sym (reading-end _ _ _ _ (c .before .loop .inv) (upTo-drop-end 32 _ _ (c .loop-test .left)))
+returns-5 c = reading-end _ _ _ _ (c .before .loop .inv) (upTo-drop-end 32 _ _ (c .loop-test .left))
 
 pub read-digits-spec : {M : Type 1} → statement M
 read-digits-spec =
