@@ -1,9 +1,11 @@
 -- 01, "What the library does": the conversions between octets and coefficient words, with "Refusal table".
 --
 --   fromOctetsAnswer so many ring elements from octets; toOctetsAnswer: back
---   ringElements     how many they are of a ring element, publicElements: of a public key, ciphertextElements: of a ciphertext
 --   smallFromAnswer  a small element from octets; smallToAnswer: back
---   ConversionExit   the number and the output at exit, from what it held before
+--   conversionExit   the number and the output at exit, from an answer and what the output held before
+--   fromOctetsExit, toOctetsExit  the same from what the call was lent: so many ring elements; this is what contracts equate
+--   elementFromExit, elementToExit        a ring element;  publicFromExit, publicToExit: a public key
+--   ciphertextFromExit, ciphertextToExit  a ciphertext (01: form);  smallFromExit, smallToExit: a small element
 -- Assumes nothing.
 use Prim.Native.Nat.{ℕ, _*_}
 use mathlib.Core.Bool.{_&&_, not}
@@ -14,15 +16,6 @@ use Rattle.definitions.specs.Refusals.{refuse, Answer, answer, number, o
 use Rattle.definitions.specs.Parameters.{Parameters, degree, smallBits, qlen, monomialCount, smallLength, elementsLength}
 use Rattle.definitions.specs.Octets.{encoded, coefficientsFit, unpacked, packed, paddingClear}
 use Rattle.definitions.specs.Calls.{lengthTests, elementsFit, decodedElements}
-
-abbrev pub ringElements : Parameters → ℕ
-ringElements p = 1
-
-abbrev pub publicElements : Parameters → ℕ
-publicElements p = monomialCount (p .dx)
-
-abbrev pub ciphertextElements : Parameters → ℕ
-ciphertextElements p = monomialCount (degree p)
 
 unfoldable pub fromOctetsAnswer : Parameters → ℕ → List ℕ → ℕ → Answer (List ℕ)
 fromOctetsAnswer p elements octets wordsLen =
@@ -58,3 +51,33 @@ pub record ConversionExit : Type 0 where
 
 unfoldable pub conversionExit : Answer (List ℕ) → List ℕ → ConversionExit
 conversionExit a old = record { refusal = number a; converted = output (λ out. out) a old }
+
+abbrev pub fromOctetsExit : Parameters → ℕ → List ℕ → List ℕ → ConversionExit
+fromOctetsExit p elements octets words = conversionExit (fromOctetsAnswer p elements octets (length words)) words
+
+abbrev pub toOctetsExit : Parameters → ℕ → List ℕ → List ℕ → ConversionExit
+toOctetsExit p elements words octets = conversionExit (toOctetsAnswer p elements words (length octets)) octets
+
+abbrev pub elementFromExit : Parameters → List ℕ → List ℕ → ConversionExit
+elementFromExit p = fromOctetsExit p 1
+
+abbrev pub elementToExit : Parameters → List ℕ → List ℕ → ConversionExit
+elementToExit p = toOctetsExit p 1
+
+abbrev pub publicFromExit : Parameters → List ℕ → List ℕ → ConversionExit
+publicFromExit p = fromOctetsExit p (monomialCount (p .dx))
+
+abbrev pub publicToExit : Parameters → List ℕ → List ℕ → ConversionExit
+publicToExit p = toOctetsExit p (monomialCount (p .dx))
+
+abbrev pub ciphertextFromExit : Parameters → List ℕ → List ℕ → ConversionExit
+ciphertextFromExit p = fromOctetsExit p (monomialCount (degree p))
+
+abbrev pub ciphertextToExit : Parameters → List ℕ → List ℕ → ConversionExit
+ciphertextToExit p = toOctetsExit p (monomialCount (degree p))
+
+abbrev pub smallFromExit : Parameters → List ℕ → List ℕ → ConversionExit
+smallFromExit p octets words = conversionExit (smallFromAnswer p octets (length words)) words
+
+abbrev pub smallToExit : Parameters → List ℕ → List ℕ → ConversionExit
+smallToExit p words octets = conversionExit (smallToAnswer p words (length octets)) octets

@@ -15,6 +15,7 @@
 --   smallLength      ⌈n × b / 8⌉;  secretLength, publicLength, ciphertextLength, messageLength: the octets of each
 --   workLength       8 × n words of 32 bits
 --   limitsAnswer     the bound and the headroom of an accepted set, or the refusal;  lengthsAnswer: the lengths
+--   limitsExit, lengthsExit  the number and the outputs at exit, from what they held before: what contracts equate
 -- Assumes nothing.
 use Prim.Native.Nat.{ℕ, suc, _+_, _-_, _*_, _/_, _%_, _^_}
 use mathlib.Core.Bool.{Bool, cond, _&&_, _||_, not}

@@ -4,11 +4,12 @@
 --   split            the parts of a text between the separators: one more part than there are separators
 --   linesOf          the lines of a text: a newline ends each; a last line without one counts if it is not empty
 --   isNumber         a field that is a number: digits, no needless leading zero, at most 4,294,967,295
---   decimal          the number that digits write;  decimalText: the digits of a number below 10^10
+--   decimal          the number that digits write;  decimalText: the digits of a number below 10^10, decimalLength of them
 --   wellFormed       whether a line is so many numbers with one space between, in at most 80 octets
 --   numbersOf        the numbers of a line
 --   setOf            the set that six numbers name, in the order ℓ q n dX dr mlen
---   lineAnswer       the text printed for a line: 0, B and s, or the refusal alone; 11 where it is malformed
+--   limitsText       the text of a set's answer: 0, B and s, or the refusal alone
+--   lineAnswer       the text printed for a line: that of its set; 11 where it is malformed
 --   roomsheet        the text printed for a text
 -- Assumes nothing.
 use Prim.Native.Nat.{ℕ, suc, _+_, _-_, _*_, _/_, _%_, _^_}

@@ -1,7 +1,6 @@
 // The conversions of the C interface: octets to coefficient words and back.
 ghost use mathlib.Core.Path.{_≡_};
-ghost use lib.ListN.{length};
-ghost use Rattle.definitions.specs.Conversions.{conversionExit, ringElements, publicElements, ciphertextElements, fromOctetsAnswer, toOctetsAnswer, smallFromAnswer, smallToAnswer};
+ghost use Rattle.definitions.specs.Conversions.{elementFromExit, elementToExit, publicFromExit, publicToExit, ciphertextFromExit, ciphertextToExit, smallFromExit, smallToExit};
 ghost use Rattle.giophantus.specs.Interface.{set};
 use parameters::Parameters;
 
@@ -17,7 +16,7 @@ pub extern "C" fn giophantus_element_from_octets(
     octets: &[u8],
     words: &mut [u32],
 ) -> u32
-    ensures { λ r. ⌜ record { refusal = r; converted = now (words .exit) } ≡ conversionExit (fromOctetsAnswer (set l q n dx dr mlen) (ringElements (set l q n dx dr mlen)) (now (octets .entry)) (length (now (words .entry)))) (now (words .entry)) ⌝ }
+    ensures { λ r. ⌜ record { refusal = r; converted = now (words .exit) } ≡ elementFromExit (set l q n dx dr mlen) (now (octets .entry)) (now (words .entry)) ⌝ }
 {
     let p = Parameters {
         l,
@@ -41,7 +40,7 @@ pub extern "C" fn giophantus_element_to_octets(
     words: &[u32],
     octets: &mut [u8],
 ) -> u32
-    ensures { λ r. ⌜ record { refusal = r; converted = now (octets .exit) } ≡ conversionExit (toOctetsAnswer (set l q n dx dr mlen) (ringElements (set l q n dx dr mlen)) (now (words .entry)) (length (now (octets .entry)))) (now (octets .entry)) ⌝ }
+    ensures { λ r. ⌜ record { refusal = r; converted = now (octets .exit) } ≡ elementToExit (set l q n dx dr mlen) (now (words .entry)) (now (octets .entry)) ⌝ }
 {
     let p = Parameters {
         l,
@@ -66,7 +65,7 @@ pub extern "C" fn giophantus_public_key_from_octets(
     octets: &[u8],
     words: &mut [u32],
 ) -> u32
-    ensures { λ r. ⌜ record { refusal = r; converted = now (words .exit) } ≡ conversionExit (fromOctetsAnswer (set l q n dx dr mlen) (publicElements (set l q n dx dr mlen)) (now (octets .entry)) (length (now (words .entry)))) (now (words .entry)) ⌝ }
+    ensures { λ r. ⌜ record { refusal = r; converted = now (words .exit) } ≡ publicFromExit (set l q n dx dr mlen) (now (octets .entry)) (now (words .entry)) ⌝ }
 {
     let p = Parameters {
         l,
@@ -90,7 +89,7 @@ pub extern "C" fn giophantus_public_key_to_octets(
     words: &[u32],
     octets: &mut [u8],
 ) -> u32
-    ensures { λ r. ⌜ record { refusal = r; converted = now (octets .exit) } ≡ conversionExit (toOctetsAnswer (set l q n dx dr mlen) (publicElements (set l q n dx dr mlen)) (now (words .entry)) (length (now (octets .entry)))) (now (octets .entry)) ⌝ }
+    ensures { λ r. ⌜ record { refusal = r; converted = now (octets .exit) } ≡ publicToExit (set l q n dx dr mlen) (now (words .entry)) (now (octets .entry)) ⌝ }
 {
     let p = Parameters {
         l,
@@ -115,7 +114,7 @@ pub extern "C" fn giophantus_ciphertext_from_octets(
     octets: &[u8],
     words: &mut [u32],
 ) -> u32
-    ensures { λ r. ⌜ record { refusal = r; converted = now (words .exit) } ≡ conversionExit (fromOctetsAnswer (set l q n dx dr mlen) (ciphertextElements (set l q n dx dr mlen)) (now (octets .entry)) (length (now (words .entry)))) (now (words .entry)) ⌝ }
+    ensures { λ r. ⌜ record { refusal = r; converted = now (words .exit) } ≡ ciphertextFromExit (set l q n dx dr mlen) (now (octets .entry)) (now (words .entry)) ⌝ }
 {
     let p = Parameters {
         l,
@@ -139,7 +138,7 @@ pub extern "C" fn giophantus_ciphertext_to_octets(
     words: &[u32],
     octets: &mut [u8],
 ) -> u32
-    ensures { λ r. ⌜ record { refusal = r; converted = now (octets .exit) } ≡ conversionExit (toOctetsAnswer (set l q n dx dr mlen) (ciphertextElements (set l q n dx dr mlen)) (now (words .entry)) (length (now (octets .entry)))) (now (octets .entry)) ⌝ }
+    ensures { λ r. ⌜ record { refusal = r; converted = now (octets .exit) } ≡ ciphertextToExit (set l q n dx dr mlen) (now (words .entry)) (now (octets .entry)) ⌝ }
 {
     let p = Parameters {
         l,
@@ -164,7 +163,7 @@ pub extern "C" fn giophantus_small_from_octets(
     octets: &[u8],
     words: &mut [u32],
 ) -> u32
-    ensures { λ r. ⌜ record { refusal = r; converted = now (words .exit) } ≡ conversionExit (smallFromAnswer (set l q n dx dr mlen) (now (octets .entry)) (length (now (words .entry)))) (now (words .entry)) ⌝ }
+    ensures { λ r. ⌜ record { refusal = r; converted = now (words .exit) } ≡ smallFromExit (set l q n dx dr mlen) (now (octets .entry)) (now (words .entry)) ⌝ }
 {
     let p = Parameters {
         l,
@@ -188,7 +187,7 @@ pub extern "C" fn giophantus_small_to_octets(
     words: &[u32],
     octets: &mut [u8],
 ) -> u32
-    ensures { λ r. ⌜ record { refusal = r; converted = now (octets .exit) } ≡ conversionExit (smallToAnswer (set l q n dx dr mlen) (now (words .entry)) (length (now (octets .entry)))) (now (octets .entry)) ⌝ }
+    ensures { λ r. ⌜ record { refusal = r; converted = now (octets .exit) } ≡ smallToExit (set l q n dx dr mlen) (now (words .entry)) (now (octets .entry)) ⌝ }
 {
     let p = Parameters {
         l,

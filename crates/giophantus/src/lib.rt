@@ -1,6 +1,7 @@
 // The C interface (include/giophantus.h): every call begins with the six numbers of the set, in the order l q n dx dr mlen, and answers
 // the refusal number, 0 at success. Nothing here asks anything of its callers: unfit input is refused by document 01's table, and a
-// refusal leaves every output as it was. Each contract is the equation of the call behind it.
+// refusal leaves every output as it was. Each contract is the equation of the call behind it: the definitions' keygenExit, isZeroExit,
+// encryptExit, addExit, decryptExit, limitsExit, lengthsExit, and elementFromExit and the like of the conversions.
 pub mod conversion;
 
 ghost use mathlib.Core.Path.{_≡_};

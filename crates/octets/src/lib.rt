@@ -1,7 +1,7 @@
 // Coefficients of qlen octets, least significant first (01, "Ring, monomials, octets"): read, written, decoded and encoded. The contracts cite
 // the definitions' numberOf, octetsOf, decoded and encoded. Each loop is written once, with qlen as a variable; `decode` and `encode` call
 // it with a constant, so that the compiler makes a loop for each qlen. Four octets are read, and eight written, at once where there is
-// room for them, and the last few coefficients one by one.
+// room for them, and the last few coefficients one by one. Nothing is refused: callers have compared the lengths and judged the coefficients.
 ghost use mathlib.Core.Path.{_≡_};
 ghost use mathlib.Core.List.{_++_};
 ghost use Prim.Native.Nat.{ℕ, _+_, _*_, _/_, _%_, _^_, _≤_, _<_};

@@ -3,8 +3,7 @@
 // list that ends early counts as going on with zeros, so the lengths are free. Unused bits are judged by `padding`, which refuses with 7,
 // and written as zero. The contracts cite the definitions' packed and paddingClear; those of the steps also specs/Fields.antt and
 // specs/Lanes.antt. A group is added up in four lanes, of every fourth coefficient each, since the compiler then adds whole rows of four at
-// once. The loops are written
-// once, with b as a variable, and called with a constant, so that the compiler makes a loop for each b.
+// once. The loops are written once, with b as a variable, and called with a constant, so that the compiler makes a loop for each b.
 use parameters::refusals;
 ghost use mathlib.Core.Path.{_≡_};
 ghost use mathlib.Core.Bool.{true};

@@ -1,5 +1,5 @@
 // A number below 2^64 modulo q without a division (Barrett): the quotient is the high half of the product with q's reciprocal, and at
-// most one too small. Nothing is refused: callers give a q below 2^31 and its reciprocal.
+// most one too small. Nothing is refused: callers give a q below 2^31 and its reciprocal. The contracts are `%` and `/` of whole numbers.
 ghost use mathlib.Core.Path.{_≡_};
 ghost use Prim.Native.Nat.{_*_, _%_, _/_, _<_};
 

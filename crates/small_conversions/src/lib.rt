@@ -1,17 +1,16 @@
 // The conversions between octets and coefficient words of 32 bits (01, "What the library does"): small elements.
 // Each call tests the set (refusals 1 to 5), the exact lengths (6), then the unused bits (7) or the coefficients (8), and writes only where
 // all of them pass: a refusal leaves the output as it was. The contracts equate what a caller has at exit with the definitions'
-// conversionExit.
+// smallFromExit and smallToExit.
 use parameters::Parameters;
 use parameters::refusals;
 ghost use mathlib.Core.Path.{_≡_};
-ghost use lib.ListN.{length};
-ghost use Rattle.definitions.specs.Conversions.{conversionExit, smallFromAnswer, smallToAnswer};
+ghost use Rattle.definitions.specs.Conversions.{smallFromExit, smallToExit};
 ghost use Rattle.parameters.specs.Answers.{setFrom};
 
 // A small element: n coefficients of b bits. A given octet string with a bit set past them is refused with 7.
 pub fn small_from_octets(p: Parameters, octets: &[u8], words: &mut [u32]) -> u32
-    ensures { λ r. ⌜ record { refusal = r; converted = now (words .exit) } ≡ conversionExit (smallFromAnswer (setFrom p) (now (octets .entry)) (length (now (words .entry)))) (now (words .entry)) ⌝ }
+    ensures { λ r. ⌜ record { refusal = r; converted = now (words .exit) } ≡ smallFromExit (setFrom p) (now (octets .entry)) (now (words .entry)) ⌝ }
 {
     let refused = parameters::refusal(p);
     if refused != 0 {
@@ -33,7 +32,7 @@ pub fn small_from_octets(p: Parameters, octets: &[u8], words: &mut [u32]) -> u32
 }
 
 pub fn small_to_octets(p: Parameters, words: &[u32], octets: &mut [u8]) -> u32
-    ensures { λ r. ⌜ record { refusal = r; converted = now (octets .exit) } ≡ conversionExit (smallToAnswer (setFrom p) (now (words .entry)) (length (now (octets .entry)))) (now (octets .entry)) ⌝ }
+    ensures { λ r. ⌜ record { refusal = r; converted = now (octets .exit) } ≡ smallToExit (setFrom p) (now (words .entry)) (now (octets .entry)) ⌝ }
 {
     let refused = parameters::refusal(p);
     if refused != 0 {

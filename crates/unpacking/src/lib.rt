@@ -2,8 +2,8 @@
 // coefficients of 1 bit, 16 of 2, 8 of 3 or of 4. A first pass puts a group's number x, and x shifted by b, 2 b and 3 b bits, into the
 // group's first four words; a second pass makes rows of four coefficients of them, each row shifted by 4 b bits more. Whole rows are shifted
 // alike, so the compiler shifts four words at once. A list that ends early counts as going on with zeros, so the lengths are free; unused
-// bits are not looked at. The contract cites the definitions' unpacked, those of the steps specs/Lanes.antt. The loops over groups are written once, with b as a variable, and
-// called with a constant.
+// bits are not looked at, and nothing is refused. The contract cites the definitions' unpacked, those of the steps specs/Lanes.antt. The loops
+// over groups are written once, with b as a variable, and called with a constant.
 ghost use mathlib.Core.Path.{_≡_};
 ghost use mathlib.Core.List.{_++_};
 ghost use Prim.Native.Nat.{ℕ, _+_, _-_, _*_, _/_, _≤_, _<_};

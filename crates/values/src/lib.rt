@@ -1,8 +1,10 @@
-// The value of a polynomial in x and y at a secret (01, "Draws from lent random octets": opening), which decryption, the zero test and a key's constant need.
+// The value of a polynomial in x and y at a secret (01, "Draws from lent random octets": opening), which decryption, the zero test and a
+// key's constant need.
 //
 // The polynomial's octets are lent. The work words are eight parts of n words: u_x, u_y, five for the terms of one total degree, and a spare
 // one. One total degree after the other is folded into the one below it: x^(k-j) y^j gives a factor u_x to x^(k-1-j) y^j, and y^k a factor
-// u_y to y^(k-1). So each term but the constant is paid by one product with a small element. The contracts cite the definitions' value.
+// u_y to y^(k-1). So each term but the constant costs one product with a small element. Nothing is refused: callers have judged the octets
+// and keep the parts within the words. The contracts cite the definitions' value.
 ghost use mathlib.Core.Path.{_≡_};
 ghost use Prim.Native.Nat.{ℕ, _+_, _-_, _*_, _%_, _≤_, _<_};
 ghost use lib.ListN.{length, getD};
