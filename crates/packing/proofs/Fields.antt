@@ -11,7 +11,7 @@
 use Prim.Native.Nat.{ℕ, zero, suc, _+_, _-_, _*_, _/_, _%_, _^_, _≤_, _<_, min}
 use mathlib.Core.Path.{_≡_, refl, sym, ap, ap₂, _∙_}
 use mathlib.Core.List.{List, [], _∷_, _++_, append-nil}
-use native.Mathlib.Nat.{zero-add, add-comm, mul-assoc, zero-mul, suc-mul, zero-div, div-one, div-eq-of-lt, div-add-mod', mod-lt, pow-suc, add-mul-div-left, mul-add-div-right, add-mul-mod-self-right, mul-zero, mul-comm, mul-le-mul-left, mul-le-mul-right, div-lt-iff-lt-mul, le-div-iff-mul-le, div-mul-le-self, min-le-left, min-le-right, le-trans, le-of-eq, le-of-lt}
+use native.Mathlib.Nat.{zero-add, add-comm, mul-assoc, zero-mul, suc-mul, zero-div, div-one, div-eq-of-lt, div-add-mod', mod-lt, pow-suc, add-mul-div-left, mul-add-div-right, add-mul-mod-self-right, mul-zero, mul-le-mul-left, mul-le-mul-right, div-lt-iff-lt-mul, le-div-iff-mul-le, div-mul-le-self, min-le-left, min-le-right, le-trans, le-of-eq, le-of-lt}
 use native.Mathlib.Decide.{decLt}
 use native.Mathlib.Omega.{arith}
 use lib.Arith.{digits-lt}

@@ -1,22 +1,22 @@
 -- Why a group of coefficients may be added up by lanes: the four sums, each shifted to its place, are the number of the group.
 --
 --   lanes-whole      the number of the four lanes is that of the coefficients
---   lane-..          a lane with one coefficient more; it fits 32 bits, as all of them do together
+--   lane-..          a lane with one coefficient more; it fits 32 bits, as all of them do together;  lanes-stored: the four lanes stored
 --   join-..          the four shifted sums as the code makes them
 --   collect-step     the lanes of one group more;  join-step: its octets
 --   regrouped-groups so many groups more;  groups-step: as the loop over up to 16 groups makes them
+--   number-fits      the number of a group fits 32 bits;  groups-end, place-below: where up to 16 groups end, and that a place fits
 -- Assumes nothing.
-use Prim.Native.Nat.{ℕ, zero, suc, _+_, _-_, _*_, _/_, _%_, _^_, _≤_, _<_, min}
+use Prim.Native.Nat.{ℕ, zero, suc, _+_, _-_, _*_, _%_, _^_, _≤_, _<_, min}
 use mathlib.Core.Path.{_≡_, refl, sym, ap, _∙_}
 use mathlib.Core.Bool.{true}
 use mathlib.Core.List.{List, [], _∷_, _++_, append-nil, append-assoc}
-use native.Mathlib.Nat.{add-zero, suc-mul, mul-comm, le-div-iff-mul-le, div-mul-le-self, mul-le-mul-right, mul-le-mul-left, mod-eq-of-lt, le-trans, lt-of-le-of-lt, lt-of-lt-of-le}
+use native.Mathlib.Nat.{add-zero, suc-mul, mul-comm, mul-le-mul-right, mul-le-mul-left, mod-eq-of-lt, le-trans, lt-of-le-of-lt, lt-of-lt-of-le}
 use native.Mathlib.Numerals.{add-one}
-use native.Mathlib.Decide.{decLt}
 use native.Mathlib.Omega.{arith}
 use lib.Pow.{pow-pos, pow-add, pow-mono, shl-exact}
-use lib.ListN.{length, getD, take, drop, set, length-take, length-drop, take-append-drop}
-use lib.Seq.{take-suc, getD-drop, length-take-le, take-append-le, drop-append-le, drop-at, drop-cons, sets-eq}
+use lib.ListN.{length, getD, take, drop, set, length-take, length-drop}
+use lib.Seq.{take-suc, getD-drop, length-take-le}
 use Rattle.definitions.specs.Sequences.{sum, tabulate, joined}
 use Rattle.definitions.specs.Octets.{octetsOf, regrouped, encoded, coefficientsFit}
 use Rattle.definitions.proofs.Filling.{tabulate-snoc}
@@ -26,6 +26,7 @@ use Rattle.octets.proofs.Laws.{encoded-snoc}
 use Rattle.packing.specs.Fields.{valueIn, fieldsOf}
 use Rattle.packing.specs.Lanes.{laneFrom, lanesIn, laneNumber, groupNumber}
 use Rattle.packing.proofs.Fields.{value-below, value-snoc, octetsOf-fields, regrouped-group}
+use Rattle.packing.proofs.Groups.{four-stored, four-read, put-step}
 use Rattle.packing.proofs.Shifts.{shift-end}
 
 -- ---- the lanes of a group
@@ -131,31 +132,11 @@ pub lanes-stored : (l : List ℕ) (to b rows at : ℕ) (words : List ℕ) {x0 x1
     → x1 ≡ laneFrom b rows (at + 1) words → x2 ≡ laneFrom b rows (at + 2) words → x3 ≡ laneFrom b rows (at + 3) words
     → set (set (set (set l to x0) (to + 1) x1) (to + 2) x2) (to + 3) x3 ≡ take to l ++ (lanesIn b rows at words ++ drop (to + 4) l)
 unfolding lanesIn
-lanes-stored l to b rows at words {x0} {x1} {x2} {x3} h e0 e1 e2 e3 =
-    let s1 : to + 1 ≡ suc to = omega arith in
-    let s2 : to + 2 ≡ suc (suc to) = omega arith in
-    let s3 : to + 3 ≡ suc (suc (suc to)) = omega arith in
-    rw (← e0, ← e1, ← e2, ← e3, s1, s2, s3)
-    (sets-eq (x0 ∷ x1 ∷ x2 ∷ x3 ∷ []) l to h ∙ append-assoc (take to l) (x0 ∷ x1 ∷ x2 ∷ x3 ∷ []) (drop (to + 4) l))
+lanes-stored l to b rows at words {x0} {x1} {x2} {x3} h e0 e1 e2 e3 = rw (← e0, ← e1, ← e2, ← e3) (four-stored l to x0 x1 x2 x3 h)
 
 -- ---- four lanes joined
 
 module _ (lanes : List ℕ) (at b : ℕ) (inside : at + 4 ≤ length lanes) where
-  four : take 4 (drop at lanes) ≡ getD lanes at 0 ∷ getD lanes (at + 1) 0 ∷ getD lanes (at + 2) 0 ∷ getD lanes (at + 3) 0 ∷ []
-  four =
-      let e1 : at + 1 ≡ suc at = omega arith in
-      let e2 : at + 2 ≡ suc (suc at) = omega arith in
-      let e3 : at + 3 ≡ suc (suc (suc at)) = omega arith in
-      rw (
-        e1,
-        e2,
-        e3,
-        drop-cons lanes at 0 (omega arith),
-        drop-cons lanes (suc at) 0 (omega arith),
-        drop-cons lanes (suc (suc at)) 0 (omega arith),
-        drop-cons lanes (suc (suc (suc at))) 0 (omega arith),
-      )
-
   four-value : valueIn b (take 4 (drop at lanes))
       ≡ getD lanes at 0 + getD lanes (at + 1) 0 * 2 ^ b + getD lanes (at + 2) 0 * 2 ^ (2 * b) + getD lanes (at + 3) 0 * 2 ^ (3 * b)
   unfolding valueIn
@@ -163,7 +144,7 @@ module _ (lanes : List ℕ) (at b : ℕ) (inside : at + 4 ≤ length lanes) wher
       let two : 2 ^ (2 * b) ≡ 2 ^ b * 2 ^ b = ap (λ (e : ℕ). 2 ^ e) (omega arith) ∙ pow-add 2 b b in
       let three : 2 ^ (3 * b) ≡ 2 ^ b * (2 ^ b * 2 ^ b)
       = ap (λ (e : ℕ). 2 ^ e) (omega arith) ∙ pow-add 2 b (b + b) ∙ ap (λ (e : ℕ). 2 ^ b * e) (pow-add 2 b b) in
-      rw (four, two, three) (omega arith)
+      rw (four-read lanes at inside, two, three) (omega arith)
 
   module _ (fits : valueIn b (take 4 (drop at lanes)) < 4294967296) where
     exact-1 : getD lanes (at + 1) 0 * 2 ^ b % 4294967296 ≡ getD lanes (at + 1) 0 * 2 ^ b
@@ -187,45 +168,18 @@ module _ (lanes : List ℕ) (at b : ℕ) (inside : at + 4 ≤ length lanes) wher
 
 -- ---- the lanes of some groups
 
--- a part of a front does not change with what stands behind the front
-front-part : (p q r : List ℕ) (a c : ℕ) → a + c ≤ length p → take c (drop a (p ++ q)) ≡ take c (drop a (p ++ r))
-front-part p q r a c h =
-    let room : c ≤ length (drop a p) = omega (arith, length-drop a p) in
-    rw (drop-append-le a p q (omega arith), drop-append-le a p r (omega arith), take-append-le c (drop a p) q room, take-append-le c (drop a p) r room)
-
-module _ (b rows at g : ℕ) (words old new : List ℕ) (room : g * 4 + 4 ≤ length old)
-    (stored : new ≡ take (g * 4) old ++ (lanesIn b rows at words ++ drop (g * 4 + 4) old))
-  where
-    collected-new : laneNumber b new g ≡ valueIn b (lanesIn b rows at words)
-    unfolding laneNumber lanesIn
-    collected-new = rw (stored, drop-at (take (g * 4) old) (lanesIn b rows at words ++ drop (g * 4 + 4) old) (g * 4) (length-take-le (g * 4) old (omega arith)))
-
-    collected-old : (k : ℕ) → k < g → laneNumber b new k ≡ laneNumber b old k
-    unfolding laneNumber
-    collected-old k l =
-        let front : length (take (g * 4) old) ≡ g * 4 = length-take-le (g * 4) old (omega arith) in
-        rw stored
-        (ap (valueIn b) (front-part (take (g * 4) old) (lanesIn b rows at words ++ drop (g * 4 + 4) old) (drop (g * 4) old) (k * 4) 4 (omega arith)
-        ∙ ap (λ (r : List ℕ). take 4 (drop (k * 4) r)) (take-append-drop (g * 4) old)))
-
 -- a turn of the loop over groups that adds up lanes
 pub collect-step : (b many start g : ℕ) (words old : List ℕ) {new : List ℕ} → g * 4 + 4 ≤ length old → (start + g) * (many * 8) + many * 8 ≤ length words
     → new ≡ take (g * 4) old ++ (lanesIn b (many * 2) ((start + g) * (many * 8)) words ++ drop (g * 4 + 4) old)
     → ((k : ℕ) → k < g → laneNumber b old k ≡ groupNumber b (many * 8) words (start + k))
     → (k : ℕ) → k < g + 1 → laneNumber b new k ≡ groupNumber b (many * 8) words (start + k)
-collect-step b many start g words old {new} room inside stored before k l =
-    elim (decLt k g) [
-      | yes s ↦ collected-old b (many * 2) ((start + g) * (many * 8)) g words old new room stored k s ∙ before k s
-      | no s ↦
-          let last : k ≡ g = omega arith in
-          rw last (collected-new b (many * 2) ((start + g) * (many * 8)) g words old new room stored ∙ number)
-    ]
-  where
-    size : many * 2 * 4 ≡ many * 8
-    size = omega arith
-
-    number : valueIn b (lanesIn b (many * 2) ((start + g) * (many * 8)) words) ≡ groupNumber b (many * 8) words (start + g)
-    number = unfold groupNumber in rw (← lanes-whole words ((start + g) * (many * 8)) b (many * 2) (omega arith), size)
+unfolding laneNumber lanesIn groupNumber
+collect-step b many start g words old room inside stored =
+    let lanes : List ℕ = lanesIn b (many * 2) ((start + g) * (many * 8)) words in
+    let size : many * 2 * 4 ≡ many * 8 = omega arith in
+    let number : valueIn b lanes ≡ groupNumber b (many * 8) words (start + g)
+    = rw (← lanes-whole words ((start + g) * (many * 8)) b (many * 2) (omega arith), size) in
+    put-step (λ (k : ℕ) (four : List ℕ). valueIn b four ≡ groupNumber b (many * 8) words (start + k)) old lanes 4 4 g (omega arith) (omega arith) refl stored number
 
 -- ---- the octets of some groups
 
@@ -283,38 +237,3 @@ groups-end g some groups len inside e h =
 -- a place is at most where its octets or coefficients start
 pub place-below : (m len : ℕ) {total bound : ℕ} → 1 ≤ len → m * len + len ≤ total → total < bound → m < bound
 place-below m len pos h l = omega (arith, mul-le-mul-left m pos)
-
-module _ (many b : ℕ) (posb : 1 ≤ b) (pos : 1 ≤ many) (small : many * b ≤ 4) where
-  pub many-small : many ≤ 4
-  many-small = omega (arith, mul-le-mul-left many posb)
-
-  pub width-small : b ≤ 4
-  width-small = omega (arith, mul-le-mul-right b pos)
-
-  pub len-positive : 1 ≤ many * b
-  len-positive = omega (arith, mul-le-mul-right b pos)
-
--- 32 bits hold 4 / b times 8 coefficients of b bits
-module _ (b : ℕ) (posb : 1 ≤ b) (few : b ≤ 4) where
-  ratio-positive : 1 ≤ 4 / b
-  ratio-positive = le-div-iff-mul-le posb .1 (omega arith)
-
-  pub ratio-small : 4 / b ≤ 4
-  ratio-small = many-small (4 / b) b posb ratio-positive (div-mul-le-self 4 b)
-
-  pub size-positive : 0 < 4 / b * 8
-  size-positive = omega (arith, ratio-positive)
-
-  pub len-small : 4 / b * b ≤ 4
-  len-small = div-mul-le-self 4 b
-
-  pub len-some : 0 < 4 / b * b
-  len-some = len-positive (4 / b) b posb ratio-positive len-small
-
-  pub group-bits : 4 / b * 8 * b ≡ 4 / b * b * 8
-  group-bits = omega arith
-
-  pub rest-narrow : (count total : ℕ) → count ≡ min total (4 / b * 8) → count * b ≤ 32
-  rest-narrow count total e =
-      let l : count ≤ 4 / b * 8 = omega arith in
-      le-trans (mul-le-mul-right b l) (omega (arith, group-bits, len-small))

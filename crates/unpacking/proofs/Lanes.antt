@@ -1,110 +1,27 @@
 -- Why rows of four from a number and three of its shifts are its coefficients: coefficient 4 j + k is x shifted by k b and then by 4 b j bits.
 --
---   many-..          how many times 8 coefficients are a group, so that its bits are at most 32;  last-narrow: a last group has no more
---   row-below        the place of a row's first bit is below 32
---   four-..          four words in a list: stored, and read
---   put-..           a list with a part put into it: what stands before, there and after
 --   lanes-rows       the rows of a number and its shifts are its coefficients
 --   row-step-..      a turn of the loop over rows;  rows-end: its end
---   place-step       a turn of the loop that places numbers;  groups-step-..: of the loop that makes rows
+--   groups-step-..   a turn of the loop that makes the rows of each group
 --   groups-unpacked  the rows of all groups are the coefficients of the octets
 -- Assumes nothing.
-use Prim.Native.Nat.{ℕ, zero, suc, _+_, _*_, _/_, _%_, _^_, _≤_, _<_, min}
+use Prim.Native.Nat.{ℕ, zero, suc, _+_, _*_, _/_, _%_, _^_, _≤_, _<_}
 use mathlib.Core.Path.{_≡_, refl, sym, ap, ap₂, _∙_}
 use mathlib.Core.List.{List, [], _∷_, _++_, append-assoc}
-use native.Mathlib.Nat.{add-zero, one-mul, mul-one, zero-mul, suc-mul, mul-le-mul, mul-le-mul-left, mul-le-mul-right, div-mul-le-self, le-div-iff-mul-le, le-step, lt-suc-self}
+use native.Mathlib.Nat.{add-zero, one-mul, zero-mul, suc-mul, le-step, lt-suc-self}
 use native.Mathlib.Numerals.{add-one}
-use native.Mathlib.Decide.{decLt}
 use native.Mathlib.Omega.{arith}
 use lib.Pow.{shr-shr}
 use lib.ListN.{length, getD, take, drop, set, length-append, length-drop, take-append-drop, length-map}
-use lib.Seq.{take-at, drop-at, drop-cons, drop-drop, length-take-le, take-append-le, drop-append-le, sets-eq}
+use lib.Seq.{drop-drop, length-take-le}
 use Rattle.definitions.specs.Sequences.{tabulate}
 use Rattle.definitions.specs.Octets.{numberOf, regrouped, unpacked}
 use Rattle.definitions.proofs.Filling.{tabulate-add}
 use Rattle.definitions.proofs.Octets.{AllBelow}
 use Rattle.packing.specs.Fields.{valueIn, fieldsOf}
 use Rattle.packing.proofs.Fields.{numberOf-value, regrouped-group}
-use Rattle.packing.proofs.Shifts.{shift-below}
+use Rattle.packing.proofs.Groups.{many-bits, four-stored, four-read, put-take, put-drop}
 use Rattle.unpacking.specs.Lanes.{lanesOf, rowOf, rowsOf, groupsOf}
-
--- ---- how large a group is
-
-pub many-pos : (b : ℕ) → 1 ≤ b → b ≤ 4 → 1 ≤ 4 / b
-many-pos b pos narrow = le-div-iff-mul-le pos .1 (omega (arith, one-mul b))
-
-pub many-least : (b : ℕ) → 4 / b * b ≤ 4
-many-least b = div-mul-le-self 4 b
-
-pub many-narrow : (b many : ℕ) → 1 ≤ many → many * b ≤ 4 → b ≤ 4
-many-narrow b many pos least = omega (arith, mul-le-mul-right b pos, one-mul b)
-
-pub many-few : (b many : ℕ) → 1 ≤ b → many * b ≤ 4 → many ≤ 4
-many-few b many pos least = omega (arith, mul-le-mul-left many pos, mul-one many)
-
-pub many-octets : (b : ℕ) → 1 ≤ b → b ≤ 4 → 1 ≤ 4 / b * b
-many-octets b pos narrow = mul-le-mul (many-pos b pos narrow) pos
-
-pub many-bits : (b many : ℕ) → many * b * 8 ≡ many * 8 * b
-many-bits b many = omega arith
-
--- a last group that may be short
-pub last-narrow : (b many left : ℕ) {count : ℕ} → many * b ≤ 4 → count ≡ min left (many * 8) → count * b ≤ 32
-last-narrow b many left {count} least e =
-    let few : count ≤ many * 8 = omega arith in
-    omega (arith, mul-le-mul-right b few)
-
--- the place of a row's first bit
-pub row-below : (j rows b : ℕ) → j < rows → 1 ≤ b → rows * 4 * b ≤ 32 → j * 4 * b < 32
-row-below j rows b few pos narrow =
-    let four : rows * (4 * b) ≤ 32 = omega arith in
-    omega (arith, shift-below j rows (4 * b) few four (omega arith))
-
--- ---- four words in a list
-
-next : (at : ℕ) → (at + 1 ≡ suc at) × (at + 2 ≡ suc (suc at)) × (at + 3 ≡ suc (suc (suc at)))
-next at = (omega arith, omega arith, omega arith)
-
-pub four-stored : (l : List ℕ) (at : ℕ) (p q r s : ℕ) → at + 4 ≤ length l
-    → set (set (set (set l at p) (at + 1) q) (at + 2) r) (at + 3) s ≡ take at l ++ ((p ∷ q ∷ r ∷ s ∷ []) ++ drop (at + 4) l)
-four-stored l at p q r s h =
-    let n = next at in
-    rw (n .0, n .1, n .2) (sets-eq (p ∷ q ∷ r ∷ s ∷ []) l at h ∙ append-assoc (take at l) (p ∷ q ∷ r ∷ s ∷ []) (drop (at + 4) l))
-
-pub four-read : (l : List ℕ) (at : ℕ) → at + 4 ≤ length l
-    → take 4 (drop at l) ≡ getD l at 0 ∷ getD l (at + 1) 0 ∷ getD l (at + 2) 0 ∷ getD l (at + 3) 0 ∷ []
-four-read l at h =
-    let n = next at in
-    rw (n .0, n .1, n .2, drop-cons l at 0 (omega arith), drop-cons l (suc at) 0 (omega arith), drop-cons l (suc (suc at)) 0 (omega arith), drop-cons l (suc (suc (suc at))) 0 (omega arith))
-
--- a part put into a list: what is before it and what is after it
-module _ (l part : List ℕ) (at count : ℕ) (room : at ≤ length l) (len : length part ≡ count) {r : List ℕ} (e : r ≡ take at l ++ (part ++ drop (at + count) l)) where
-  front : length (take at l ++ part) ≡ at + count
-  front = omega (arith, length-append (take at l) part, length-take-le at l room)
-
-  apart : r ≡ (take at l ++ part) ++ drop (at + count) l
-  apart = e ∙ sym (append-assoc (take at l) part (drop (at + count) l))
-
-  pub put-take : take (at + count) r ≡ take at l ++ part
-  put-take = rw apart (take-at (take at l ++ part) (drop (at + count) l) (at + count) front)
-
-  pub put-drop : drop (at + count) r ≡ drop (at + count) l
-  put-drop = rw apart (drop-at (take at l ++ part) (drop (at + count) l) (at + count) front)
-
-  pub put-before : take at r ≡ take at l
-  put-before = rw e (take-at (take at l) (part ++ drop (at + count) l) at (length-take-le at l room))
-
-  pub put-here : take count (drop at r) ≡ part
-  put-here =
-      rw (e, drop-at (take at l) (part ++ drop (at + count) l) at (length-take-le at l room))
-      (take-at part (drop (at + count) l) count len)
-
-part-front : (l : List ℕ) (i count at : ℕ) → at ≤ length l → i + count ≤ at → take count (drop i l) ≡ take count (drop i (take at l))
-part-front l i count at room h =
-    let full : length (take at l) ≡ at = length-take-le at l room in
-    ap (λ (k : List ℕ). take count (drop i k)) (sym (take-append-drop at l))
-    ∙ rw (drop-append-le i (take at l) (drop at l) (omega arith))
-    (take-append-le count (drop i (take at l)) (drop at l) (omega (arith, length-drop i (take at l))))
 
 -- ---- the rows of a number and its shifts
 
@@ -184,19 +101,6 @@ pub rows-end : (words l part : List ℕ) (at n : ℕ) → take n l ≡ take at w
 rows-end words l part at n before after =
     sym (take-append-drop n l) ∙ rw (before, after) (append-assoc (take at words) part (drop n words))
 
-pub place-step : (f : ℕ → List ℕ) (l part : List ℕ) (size g : ℕ) {r : List ℕ} → 4 ≤ size → g * size ≤ length l → length r ≡ length l → length part ≡ 4
-    → r ≡ take (g * size) l ++ (part ++ drop (g * size + 4) l) → part ≡ f g → ((h : ℕ) → h < g → take 4 (drop (h * size) l) ≡ f h)
-    → (h : ℕ) → h < g + 1 → take 4 (drop (h * size) r) ≡ f h
-place-step f l part size g {r} wide room same four e value before h inside =
-    elim (decLt h g) [
-      | yes s ↦ let end : h * size + 4 ≤ g * size = omega (arith, mul-le-mul-right size s, suc-mul h size) in
-          part-front r (h * size) 4 (g * size) (omega arith) end
-          ∙ ap (λ (k : List ℕ). take 4 (drop (h * size) k)) (put-before l part (g * size) 4 room four e)
-          ∙ sym (part-front l (h * size) 4 (g * size) room end)
-          ∙ before h s
-      | no s ↦ let here : h ≡ g = omega arith in rw here (put-here l part (g * size) 4 room four e ∙ value)
-    ]
-
 module _ (b many g : ℕ) (words l : List ℕ) (pos : 1 ≤ many) (room : g * (many * 8) + many * 2 * 4 ≤ length l)
     (before : take (g * (many * 8)) l ≡ groupsOf b many g words) (after : drop (g * (many * 8)) l ≡ drop (g * (many * 8)) words)
     {r : List ℕ}
@@ -229,9 +133,8 @@ groups-unpacked b many zero octets words below placed = unfold regrouped tabulat
 groups-unpacked b many (suc g) octets words below placed =
     let start : groupsOf b many g words ≡ regrouped 8 b (g * (many * 8)) octets
     = unfold unpacked in groups-unpacked b many g octets words below (λ h l. placed h (le-step l)) in
-    let bits : many * b * 8 ≡ many * 8 * b = omega arith in
     let size : many * 2 * 4 ≡ many * 8 = omega arith in
     let last : rowsOf b (many * 2) (take 4 (drop (g * (many * 8)) words)) ≡ fieldsOf b (many * 8) (valueIn 8 (take (many * b) (drop (g * (many * b)) octets)))
     = rw (placed g (lt-suc-self g), lanes-rows b (many * 2) (numberOf (take (many * b) (drop (g * (many * b)) octets))), size, numberOf-value (take (many * b) (drop (g * (many * b)) octets))) in
-    rw (suc-mul g (many * 8), regrouped-group 8 b (many * 8) (many * b) octets g (omega arith) bits below)
+    rw (suc-mul g (many * 8), regrouped-group 8 b (many * 8) (many * b) octets g (omega arith) (sym (many-bits b many)) below)
     (ap₂ _++_ start last)

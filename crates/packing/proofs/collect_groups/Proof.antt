@@ -6,7 +6,8 @@ use native.Mathlib.Omega.{arith}
 use lib.ListN.{length}
 use Rattle.octets.proofs.Laws.{place-end}
 use Rattle.packing.specs.Lanes.{laneNumber, groupNumber}
-use Rattle.packing.proofs.Lanes.{collect-step, place-below, many-small}
+use Rattle.packing.proofs.Groups.{many-few}
+use Rattle.packing.proofs.Lanes.{collect-step, place-below}
 use Rattle.packing.proofs.collect_groups.Statement.{statement}
 use Rattle.packing.proofs.collect_groups.Tie as tie
 
@@ -31,7 +32,7 @@ end c =
 few : (c : tie.In-loop Inv-loop μ-loop) → c .before .before .before .before .args .many ≤ 4
 few c =
     let s = c .before .before .before .before in
-    many-small (s .args .many) (s .args .b) (s .pre .0) (s .pre .1) (s .pre .2)
+    many-few (s .args .b) (s .args .many) (s .pre .2) (s .pre .0)
 
 add-collect : tie.Need-add-collect Inv-loop μ-loop
 add-collect c =

@@ -3,7 +3,7 @@
 use Prim.Native.Nat.{_+_, _-_, _*_, _≤_}
 use mathlib.Core.Path.{_≡_, refl, sym}
 use mathlib.Core.List.{_++_, append-nil}
-use native.Mathlib.Nat.{add-zero}
+use native.Mathlib.Nat.{add-zero, mul-pos}
 use native.Mathlib.Omega.{arith}
 use lib.ListN.{length, take}
 use Rattle.definitions.specs.Sequences.{tabulate, joined}
@@ -11,7 +11,8 @@ use Rattle.definitions.specs.Octets.{encoded}
 use Rattle.octets.proofs.Laws.{place-end}
 use Rattle.packing.specs.Lanes.{laneNumber}
 use Rattle.packing.proofs.Fields.{take-stored-fields}
-use Rattle.packing.proofs.Lanes.{join-step, place-below, width-small, len-positive}
+use Rattle.packing.proofs.Groups.{many-narrow}
+use Rattle.packing.proofs.Lanes.{join-step, place-below}
 use Rattle.packing.proofs.join_groups.Statement.{statement}
 use Rattle.packing.proofs.join_groups.Tie as tie
 
@@ -43,8 +44,7 @@ add-store c =
     let s = c .before .before .before .before .before in
     record {
       fits =
-          place-below (s .args .start + c .before .before .loop .g) (s .args .many * s .args .b)
-          (len-positive (s .args .many) (s .args .b) (s .pre .0 .0) (s .pre .0 .1) (s .pre .0 .2)) (end c) (omega arith);
+          place-below (s .args .start + c .before .before .loop .g) (s .args .many * s .args .b) (mul-pos (s .pre .0 .1) (s .pre .0 .0)) (end c) (omega arith);
     }
 
 mul-store : tie.Need-mul-store Inv-loop μ-loop
@@ -63,7 +63,7 @@ join-requires : tie.Need-join-requires Inv-loop μ-loop
 unfolding laneNumber
 join-requires c κs =
     let s = c .before .before .before .before .before in
-    (width-small (s .args .many) (s .args .b) (s .pre .0 .0) (s .pre .0 .1) (s .pre .0 .2), omega arith, s .pre .1 (c .before .before .loop .g) (c .before .loop-test .taken))
+    (many-narrow (s .args .b) (s .args .many) (s .pre .0 .2) (s .pre .0 .1), omega arith, s .pre .1 (c .before .before .loop .g) (c .before .loop-test .taken))
 
 store-requires : tie.Need-store-requires Inv-loop μ-loop
 store-requires c κs = (c .before .before .before .before .before .before .pre .0 .2, end (c .before))

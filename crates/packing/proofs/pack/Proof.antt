@@ -8,7 +8,7 @@ use lib.ListN.{length}
 use Rattle.definitions.specs.Octets.{packed}
 use Rattle.definitions.proofs.Octets.{coefficientsFit-below}
 use Rattle.packing.proofs.Fields.{groups-places, groups-numbers, part-end, parts-whole, take-stored-fields}
-use Rattle.packing.proofs.Lanes.{ratio-small, size-positive, len-small, len-some, group-bits, rest-narrow}
+use Rattle.packing.proofs.Groups.{many-few, many-fits, many-words, many-octets, many-bits, many-last}
 use borrow.Author.Needs.{needs}
 use Rattle.packing.proofs.pack.Statement.{statement}
 use Rattle.packing.proofs.pack.Tie as tie
@@ -19,22 +19,20 @@ div-many c = search needs
 mul-size : tie.Need-mul-size
 mul-size c =
     let s = c .before .before in
-    omega (arith, ratio-small (s .args .b) (s .pre .0) (s .pre .1))
+    omega (arith, many-few (s .args .b) (4 / s .args .b) (many-fits (s .args .b)) (s .pre .0))
 
 mul-len : tie.Need-mul-len
-mul-len c =
-    let s = c .before .before in
-    omega (arith, len-small (s .args .b) (s .pre .0) (s .pre .1))
+mul-len c = omega (arith, many-fits (c .before .before .args .b))
 
 div-least : tie.Need-div-least
 div-least c =
     let s = c .before .before in
-    len-some (s .args .b) (s .pre .0) (s .pre .1)
+    many-octets (s .args .b) (s .pre .0) (s .pre .1)
 
 div-least-2 : tie.Need-div-least-2
 div-least-2 c =
     let s = c .before .before in
-    size-positive (s .args .b) (s .pre .0) (s .pre .1)
+    many-words (s .args .b) (s .pre .0) (s .pre .1)
 
 least-requires : tie.Need-least-requires
 least-requires c κs = search needs
@@ -43,13 +41,13 @@ places : (c : tie.After-least) → c .least .result * (4 / c .before .before .be
 places c =
     let s = c .before .before .before in
     let a = s .args in
-    groups-places (a .b) 8 (4 / a .b * a .b) (4 / a .b * 8) (length (a .octets .now)) (a .words .now) (s .pre .0) (len-some (a .b) (s .pre .0) (s .pre .1)) (size-positive (a .b) (s .pre .0) (s .pre .1)) (group-bits (a .b) (s .pre .0) (s .pre .1)) (c .least .result) (c .least .ensures)
+    groups-places (a .b) 8 (4 / a .b * a .b) (4 / a .b * 8) (length (a .octets .now)) (a .words .now) (s .pre .0) (many-octets (a .b) (s .pre .0) (s .pre .1)) (many-words (a .b) (s .pre .0) (s .pre .1)) (many-bits (a .b) (4 / a .b)) (c .least .result) (c .least .ensures)
 
 numbers : (c : tie.After-least) → c .least .result * (4 / c .before .before .before .args .b * 8) ≤ length (c .before .before .before .args .words .now)
 numbers c =
     let s = c .before .before .before in
     let a = s .args in
-    groups-numbers (a .b) 8 (4 / a .b * a .b) (4 / a .b * 8) (length (a .octets .now)) (a .words .now) (s .pre .0) (len-some (a .b) (s .pre .0) (s .pre .1)) (size-positive (a .b) (s .pre .0) (s .pre .1)) (group-bits (a .b) (s .pre .0) (s .pre .1)) (c .least .result) (c .least .ensures)
+    groups-numbers (a .b) 8 (4 / a .b * a .b) (4 / a .b * 8) (length (a .octets .now)) (a .words .now) (s .pre .0) (many-octets (a .b) (s .pre .0) (s .pre .1)) (many-words (a .b) (s .pre .0) (s .pre .1)) (many-bits (a .b) (4 / a .b)) (c .least .result) (c .least .ensures)
 
 -- the octets after the groups
 start : (c : tie.After-pack-groups)
@@ -88,12 +86,12 @@ gather-requires : tie.Need-gather-requires
 gather-requires c κs =
     let s = c .before .before .before .before .before .before .before .before .before .before in
     let count = c .before .before .least2 in
-    (s .pre .0, rest-narrow (s .args .b) (s .pre .0) (s .pre .1) (count .result) _ (count .ensures), part-end _ (numbers (c .before .before .before .before .before .before .before)) (count .ensures), s .pre .2)
+    (s .pre .0, many-last (s .args .b) (4 / s .args .b) (many-fits (s .args .b)) _ (count .ensures), part-end _ (numbers (c .before .before .before .before .before .before .before)) (count .ensures), s .pre .2)
 
 store-requires : tie.Need-store-requires
 store-requires c κs =
     let s = c .before .before .before .before .before .before .before .before .before .before .before in
-    (omega (arith, len-small (s .args .b) (s .pre .0) (s .pre .1)), end c)
+    (omega (arith, many-fits (s .args .b)), end c)
 
 add-clear-octets : tie.Need-add-clear-octets
 add-clear-octets c = record { fits = lt-of-le-of-lt (end (c .before .before .before .before)) (omega arith) }
@@ -111,7 +109,7 @@ returns c =
     let first = c .before .before .before .before .before .before .before .before .before .before .before .before .before .pack-groups in
     let last = c .before .before .before .before .before .before .store in
     parts-whole (s .args .b) 8 (4 / s .args .b * s .args .b) (4 / s .args .b * 8) (length (s .args .octets .now)) (s .args .words .now)
-    (s .pre .0) (len-some (s .args .b) (s .pre .0) (s .pre .1)) (size-positive (s .args .b) (s .pre .0) (s .pre .1)) (group-bits (s .args .b) (s .pre .0) (s .pre .1))
+    (s .pre .0) (many-octets (s .args .b) (s .pre .0) (s .pre .1)) (many-words (s .args .b) (s .pre .0) (s .pre .1)) (many-bits (s .args .b) (4 / s .args .b))
     (c .before .before .before .before .before .before .before .before .before .before .before .before .before .before .before .least .result) (c .before .before .before .before .before .before .before .before .before .before .before .before .before .before .before .least .ensures) (coefficientsFit-below _ (s .args .words .now) (s .pre .2))
     (c .before .before .before .before .before .before .before .before .before .least3 .result) (c .before .before .before .before .before .before .before .before .before .before .least2 .result) (rw (first .kept .1 .1 .1 .0) at (c .before .before .before .before .before .before .before .before .before .least3 .ensures)) (c .before .before .before .before .before .before .before .before .before .before .least2 .ensures)
     (first .last .1 .1 .1 .0) (last .last .0) (c .before .before .clear-octets .last .0)

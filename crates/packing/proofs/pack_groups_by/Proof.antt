@@ -9,6 +9,7 @@ use Rattle.definitions.specs.Sequences.{tabulate}
 use Rattle.definitions.specs.Octets.{regrouped, packed}
 use Rattle.definitions.proofs.Octets.{coefficientsFit-below}
 use Rattle.packing.specs.Lanes.{laneNumber}
+use Rattle.packing.proofs.Groups.{many-bits}
 use Rattle.packing.proofs.Lanes.{groups-step, groups-end, number-fits}
 use Rattle.packing.proofs.pack_groups_by.Statement.{statement}
 use Rattle.packing.proofs.pack_groups_by.Tie as tie
@@ -75,7 +76,7 @@ loop-again c =
       octets .kept .1 .1 .1 .1 .1 .0 ∙ l .inv .1,
       sums .kept .1 .1 .1 .1 .1 .0 ∙ l .inv .2,
       groups-step (s .args .b) (s .args .many * s .args .b) (s .args .many * 8) (s .args .words .now) (l .octets) (octets .last .1 .1 .1 .1 .1 .0) (l .g) (some .result)
-          (laneNumber (s .args .b) (sums .last .1 .1 .1 .1 .1 .0)) (s .pre .0) (omega arith) (coefficientsFit-below _ (s .args .words .now) (s .pre .5)) (sums .ensures) (l .inv .3) (octets .ensures),
+          (laneNumber (s .args .b) (sums .last .1 .1 .1 .1 .1 .0)) (s .pre .0) (many-bits (s .args .b) (s .args .many)) (coefficientsFit-below _ (s .args .words .now) (s .pre .5)) (sums .ensures) (l .inv .3) (octets .ensures),
     )
 
 same-length : tie.Need-same-length Inv-loop μ-loop

@@ -3,8 +3,8 @@
 use Prim.Native.Nat.{_*_, _/_, _^_}
 use native.Mathlib.Omega.{arith}
 use lib.ListN.{length-set}
+use Rattle.packing.proofs.Groups.{four-stored}
 use Rattle.unpacking.specs.Lanes.{lanesOf}
-use Rattle.unpacking.proofs.Lanes.{four-stored}
 use borrow.Author.Needs.{needs}
 use Rattle.unpacking.proofs.place.Statement.{statement}
 use Rattle.unpacking.proofs.place.Tie as tie

@@ -2,12 +2,14 @@
 -- Assumes nothing.
 use Prim.Native.Nat.{ℕ, _+_, _-_, _*_, _≤_, _<_}
 use mathlib.Core.Path.{_≡_, refl, ap}
+use mathlib.Core.List.{List}
 use native.Mathlib.Omega.{arith}
 use lib.ListN.{length, take, drop}
 use Rattle.definitions.specs.Octets.{numberOf}
 use Rattle.octets.proofs.Laws.{place-end, place-fits}
+use Rattle.packing.proofs.Groups.{many-few, many-narrow, put-step}
 use Rattle.unpacking.specs.Lanes.{lanesOf}
-use Rattle.unpacking.proofs.Lanes.{many-few, many-narrow, length-lanesOf, place-step}
+use Rattle.unpacking.proofs.Lanes.{length-lanesOf}
 use Rattle.unpacking.proofs.place_groups.Statement.{statement}
 use Rattle.unpacking.proofs.place_groups.Tie as tie
 
@@ -23,7 +25,7 @@ loop-holds : tie.Need-loop-holds Inv-loop μ-loop
 loop-holds c = (omega arith, refl, λ h l. let z : ⊥ = omega arith in absurd z)
 
 few : (c : tie.After-place-arg Inv-loop μ-loop) → c .before .before .before .before .before .args .many ≤ 4
-few c = let s = c .before .before .before .before .before in many-few (s .args .b) (s .args .many) (s .pre .0) (s .pre .2)
+few c = let s = c .before .before .before .before .before in many-few (s .args .b) (s .args .many) (s .pre .2) (s .pre .0)
 
 room : (c : tie.After-place-arg Inv-loop μ-loop)
     → c .before .before .before .before .before .args .groups * (c .before .before .before .before .before .args .many * 8) ≤ length (c .before .before .loop .words)
@@ -58,7 +60,7 @@ number-requires c κs =
 place-requires : tie.Need-place-requires Inv-loop μ-loop
 place-requires c κs =
     let s = c .before .before .before .before .before .before in
-    (s .pre .0, many-narrow (s .args .b) (s .args .many) (s .pre .1) (s .pre .2), omega (arith, end (c .before)))
+    (s .pre .0, many-narrow (s .args .b) (s .args .many) (s .pre .2) (s .pre .1), omega (arith, end (c .before)))
 
 add-g : tie.Need-add-g Inv-loop μ-loop
 add-g c = omega arith
@@ -73,8 +75,8 @@ loop-again c =
     let x = c .before .before .before .number .result in (
       omega arith,
       omega arith,
-      place-step (λ h. lanesOf (s .args .b) (numberOf (take (s .args .many * s .args .b) (drop (h * (s .args .many * s .args .b)) (s .args .octets .now))))) (l .words)
-          (lanesOf (s .args .b) x) (s .args .many * 8) (l .g) (omega arith) (omega (arith, end (c .before .before .before .before))) (c .before .before .place .kept .0) (length-lanesOf (s .args .b) x)
+      put-step (λ (h : ℕ) (four : List ℕ). four ≡ lanesOf (s .args .b) (numberOf (take (s .args .many * s .args .b) (drop (h * (s .args .many * s .args .b)) (s .args .octets .now))))) (l .words)
+          (lanesOf (s .args .b) x) (s .args .many * 8) 4 (l .g) (omega arith) (omega (arith, end (c .before .before .before .before))) (length-lanesOf (s .args .b) x)
           (c .before .before .place .ensures) (ap (lanesOf (s .args .b)) (c .before .before .before .number .ensures)) (l .inv .2),
     )
 

@@ -6,8 +6,9 @@ use native.Mathlib.Nat.{zero-mul}
 use native.Mathlib.Omega.{arith}
 use lib.ListN.{length, take, drop}
 use Rattle.octets.proofs.Laws.{place-end}
+use Rattle.packing.proofs.Groups.{many-few, many-narrow}
 use Rattle.unpacking.specs.Lanes.{groupsOf}
-use Rattle.unpacking.proofs.Lanes.{many-few, many-narrow, groups-step-take, groups-step-drop}
+use Rattle.unpacking.proofs.Lanes.{groups-step-take, groups-step-drop}
 use Rattle.unpacking.proofs.spread_groups.Statement.{statement}
 use Rattle.unpacking.proofs.spread_groups.Tie as tie
 
@@ -24,7 +25,7 @@ unfolding groupsOf
 loop-holds c = let none = zero-mul (c .before .args .many * 8) in (omega arith, refl, rw none, refl)
 
 few : (c : tie.After-spread-rows-arg Inv-loop μ-loop) → c .before .before .before .before .args .many ≤ 4
-few c = let s = c .before .before .before .before in many-few (s .args .b) (s .args .many) (s .pre .0) (s .pre .2)
+few c = let s = c .before .before .before .before in many-few (s .args .b) (s .args .many) (s .pre .2) (s .pre .0)
 
 end : (c : tie.After-spread-rows-arg Inv-loop μ-loop)
     → c .before .before .loop .g * (c .before .before .before .before .args .many * 8) + c .before .before .before .before .args .many * 2 * 4 ≤ length (c .before .before .loop .words)
@@ -45,7 +46,7 @@ mul-spread-rows-3 c = omega (arith, few c)
 spread-rows-requires : tie.Need-spread-rows-requires Inv-loop μ-loop
 spread-rows-requires c κs =
     let s = c .before .before .before .before in
-    (s .pre .0, many-narrow (s .args .b) (s .args .many) (s .pre .1) (s .pre .2), omega arith, omega arith, end c)
+    (s .pre .0, many-narrow (s .args .b) (s .args .many) (s .pre .2) (s .pre .1), omega arith, omega arith, end c)
 
 add-g : tie.Need-add-g Inv-loop μ-loop
 add-g c = omega arith

@@ -8,9 +8,9 @@ use native.Mathlib.Omega.{arith}
 use lib.Dec.{lit≤}
 use lib.Pow.{pow-pos}
 use lib.ListN.{length, take, drop, length-set}
-use Rattle.packing.proofs.Shifts.{shl-one}
+use Rattle.packing.proofs.Shifts.{shift-below, shl-one}
 use Rattle.unpacking.specs.Lanes.{rowsOf}
-use Rattle.unpacking.proofs.Lanes.{row-below, row-step-take, row-step-drop, rows-end}
+use Rattle.unpacking.proofs.Lanes.{row-step-take, row-step-drop, rows-end}
 use Rattle.unpacking.proofs.spread_rows.Statement.{statement}
 use Rattle.unpacking.proofs.spread_rows.Tie as tie
 
@@ -70,7 +70,7 @@ loop-holds c =
 narrow : (c : tie.In-loop Inv-loop μ-loop) → c .before .loop .j * 4 * c .before .before .before .before .before .before .args .b < 32
 narrow c =
     let s = c .before .before .before .before .before .before in
-    row-below (c .before .loop .j) (s .args .rows) (s .args .b) (c .loop-test .taken) (s .pre .0) (s .pre .3)
+    shift-below (c .before .loop .j * 4) (s .args .rows * 4) (s .args .b) (omega arith) (s .pre .3) (s .pre .0)
 
 positive : (c : tie.In-loop Inv-loop μ-loop) → 0 < 1 * 2 ^ c .before .before .before .before .before .before .args .b % 4294967296
 positive c = let s = c .before .before .before .before .before .before in rw (shl-one (s .args .b) (omega arith)) (pow-pos (s .args .b))

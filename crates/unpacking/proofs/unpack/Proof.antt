@@ -1,59 +1,53 @@
 -- `unpacking::unpack` is right because whole groups, the last one and zeros are all that there is.
 -- Assumes nothing.
-use Prim.Native.Nat.{_+_, _*_, _/_, _≤_, _<_}
-use mathlib.Core.Path.{_∙_}
+use Prim.Native.Nat.{_+_, _*_, _/_, _≤_}
+use mathlib.Core.Path.{sym, _∙_}
 use native.Mathlib.Nat.{lt-of-le-of-lt}
 use native.Mathlib.Omega.{arith}
 use lib.Dec.{lit≤}
 use lib.ListN.{length}
 use Rattle.definitions.specs.Octets.{unpacked}
 use Rattle.packing.proofs.Fields.{numberOf-value, groups-places, groups-numbers, part-end, parts-whole}
+use Rattle.packing.proofs.Groups.{many-few, many-fits, many-words, many-octets, many-bits, many-last}
 use borrow.Author.Needs.{needs}
-use Rattle.unpacking.proofs.Lanes.{many-pos, many-few, many-least, many-octets, many-bits, last-narrow}
 use Rattle.unpacking.proofs.unpack.Statement.{statement}
 use Rattle.unpacking.proofs.unpack.Tie as tie
-
-many : (c : tie.After-slice-known) → 1 ≤ 4 / c .before .before .args .b
-many c = let s = c .before .before in many-pos (s .args .b) (s .pre .0) (s .pre .1)
-
-few : (c : tie.After-slice-known) → 4 / c .before .before .args .b ≤ 4
-few c = let s = c .before .before in many-few (s .args .b) (4 / s .args .b) (s .pre .0) (many-least (s .args .b))
-
-size : (c : tie.After-slice-known) → 0 < 4 / c .before .before .args .b * 8
-size c = omega (arith, many c)
-
-len : (c : tie.After-slice-known) → 0 < 4 / c .before .before .args .b * c .before .before .args .b
-len c = let s = c .before .before in many-octets (s .args .b) (s .pre .0) (s .pre .1)
 
 div-many : tie.Need-div-many
 div-many c = omega arith
 
 mul-size : tie.Need-mul-size
-mul-size c = omega (arith, few c)
+mul-size c =
+    let s = c .before .before in
+    omega (arith, many-few (s .args .b) (4 / s .args .b) (many-fits (s .args .b)) (s .pre .0))
 
 mul-len : tie.Need-mul-len
-mul-len c = omega (arith, many-least (c .before .before .args .b))
+mul-len c = omega (arith, many-fits (c .before .before .args .b))
 
 div-least : tie.Need-div-least
-div-least c = size c
+div-least c =
+    let s = c .before .before in
+    many-words (s .args .b) (s .pre .0) (s .pre .1)
 
 div-least-2 : tie.Need-div-least-2
-div-least-2 c = len c
+div-least-2 c =
+    let s = c .before .before in
+    many-octets (s .args .b) (s .pre .0) (s .pre .1)
 
 least-requires : tie.Need-least-requires
 least-requires c κs = search needs
 
 places : (c : tie.After-least) → c .least .result * (4 / c .before .before .before .args .b * 8) ≤ length (c .before .before .before .args .words .now)
 places c =
-    let a = c .before .before .before .args in
-    groups-places 8 (a .b) (4 / a .b * 8) (4 / a .b * a .b) (length (a .words .now)) (a .octets .now) (lit≤ tt) (size (c .before)) (len (c .before)) (many-bits (a .b) (4 / a .b)) (c .least .result)
-    (c .least .ensures)
+    let s = c .before .before .before in
+    let a = s .args in
+    groups-places 8 (a .b) (4 / a .b * 8) (4 / a .b * a .b) (length (a .words .now)) (a .octets .now) (lit≤ tt) (many-words (a .b) (s .pre .0) (s .pre .1)) (many-octets (a .b) (s .pre .0) (s .pre .1)) (sym (many-bits (a .b) (4 / a .b))) (c .least .result) (c .least .ensures)
 
 numbers : (c : tie.After-least) → c .least .result * (4 / c .before .before .before .args .b * c .before .before .before .args .b) ≤ length (c .before .before .before .args .octets .now)
 numbers c =
-    let a = c .before .before .before .args in
-    groups-numbers 8 (a .b) (4 / a .b * 8) (4 / a .b * a .b) (length (a .words .now)) (a .octets .now) (lit≤ tt) (size (c .before)) (len (c .before)) (many-bits (a .b) (4 / a .b)) (c .least .result)
-    (c .least .ensures)
+    let s = c .before .before .before in
+    let a = s .args in
+    groups-numbers 8 (a .b) (4 / a .b * 8) (4 / a .b * a .b) (length (a .words .now)) (a .octets .now) (lit≤ tt) (many-words (a .b) (s .pre .0) (s .pre .1)) (many-octets (a .b) (s .pre .0) (s .pre .1)) (sym (many-bits (a .b) (4 / a .b))) (c .least .result) (c .least .ensures)
 
 -- the words after the groups
 start : (c : tie.After-unpack-groups)
@@ -88,12 +82,12 @@ least-requires-3 c κs = search needs
 number-requires : tie.Need-number-requires
 number-requires c κs =
     let a = c .before .before .before .before .before .before .before .before .before .before .args in
-    (omega (arith, many-least (a .b)), part-end (4 / a .b * a .b) (numbers (c .before .before .before .before .before .before .before)) (c .before .least3 .ensures))
+    (omega (arith, many-fits (a .b)), part-end (4 / a .b * a .b) (numbers (c .before .before .before .before .before .before .before)) (c .before .least3 .ensures))
 
 spread-requires : tie.Need-spread-requires
 spread-requires c κs =
     let s = c .before .before .before .before .before .before .before .before .before .before .before in
-    (s .pre .0, s .pre .1, last-narrow (s .args .b) (4 / s .args .b) _ (many-least (s .args .b)) (c .before .before .before .least2 .ensures), end c)
+    (s .pre .0, s .pre .1, many-last (s .args .b) (4 / s .args .b) (many-fits (s .args .b)) _ (c .before .before .before .least2 .ensures), end c)
 
 add-clear-words : tie.Need-add-clear-words
 add-clear-words c = record { fits = lt-of-le-of-lt (end (c .before .before .before .before)) (omega arith) }
@@ -107,10 +101,11 @@ same-length c = search needs
 returns : tie.Need-returns
 unfolding unpacked
 returns c =
-    let a = c .before .before .before .before .before .before .before .before .before .before .before .before .before .before .before .before .before .before .args in
+    let s = c .before .before .before .before .before .before .before .before .before .before .before .before .before .before .before .before .before .before in
+    let a = s .args in
     let first = c .before .before .before .before .before .before .before .before .before .before .before .before .before .unpack-groups in
     let last = c .before .before .before .before .before .before .spread in
-    parts-whole 8 (a .b) (4 / a .b * 8) (4 / a .b * a .b) (length (a .words .now)) (a .octets .now) (lit≤ tt) (size (c .before .before .before .before .before .before .before .before .before .before .before .before .before .before .before .before)) (len (c .before .before .before .before .before .before .before .before .before .before .before .before .before .before .before .before)) (many-bits (a .b) (4 / a .b))
+    parts-whole 8 (a .b) (4 / a .b * 8) (4 / a .b * a .b) (length (a .words .now)) (a .octets .now) (lit≤ tt) (many-words (a .b) (s .pre .0) (s .pre .1)) (many-octets (a .b) (s .pre .0) (s .pre .1)) (sym (many-bits (a .b) (4 / a .b)))
     (c .before .before .before .before .before .before .before .before .before .before .before .before .before .before .before .least .result) (c .before .before .before .before .before .before .before .before .before .before .before .before .before .before .before .least .ensures)
     (λ i h. c .before .before .before .before .before .before .before .before .before .before .before .before .before .before .before .before .before .shared-slice-known .given i .fits) (c .before .before .before .before .before .before .before .before .before .before .least2 .result) (c .before .before .before .before .before .before .before .before .before .least3 .result)
     (rw (first .kept .1 .1 .1 .0) at (c .before .before .before .before .before .before .before .before .before .before .least2 .ensures)) (c .before .before .before .before .before .before .before .before .before .least3 .ensures)
