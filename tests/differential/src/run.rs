@@ -1,6 +1,6 @@
 //! A run of a group: its seed, its rounds, the calls that it saw, and the end at a difference.
 
-use std::collections::BTreeMap;
+use std::collections::{BTreeMap, BTreeSet};
 use std::env;
 use std::process::exit;
 use std::time::{Duration, Instant};
@@ -29,6 +29,24 @@ pub struct Made<'a> {
     pub work: Option<&'a dyn Checked>,
 }
 
+/// What the loops of a call go by in an accepted set.
+#[derive(Clone, Copy, PartialEq, Eq, PartialOrd, Ord)]
+pub struct Shape {
+    pub l: u32,
+    pub n: u32,
+    pub qlen: usize,
+}
+
+impl Shape {
+    fn of(set: Set) -> Self {
+        Shape {
+            l: set.l,
+            n: set.n,
+            qlen: set.qlen(),
+        }
+    }
+}
+
 pub struct Run {
     pub prng: Prng,
     seed: u64,
@@ -36,8 +54,8 @@ pub struct Run {
     short: bool,
     sets: u64,
     calls: u64,
-    /// How often each call answered each number.
-    seen: BTreeMap<(&'static str, u32), u64>,
+    /// The numbers that each call answered, with the accepted sets that it did so for.
+    seen: BTreeMap<(&'static str, u32), BTreeSet<Shape>>,
 }
 
 impl Run {
@@ -59,6 +77,17 @@ impl Run {
         self.short && !self.sets.is_multiple_of(SHORT)
     }
 
+    /// Whether most sets are left out.
+    pub fn is_short(&self) -> bool {
+        self.short
+    }
+
+    /// Whether a call gave this number for such an accepted set.
+    pub fn gave(&self, call: &'static str, number: u32, such: impl Fn(&Shape) -> bool) -> bool {
+        let shapes = self.seen.get(&(call, number));
+        shapes.is_some_and(|shapes| shapes.iter().any(such))
+    }
+
     /// Says what is about to be called, where the run was asked to (`--trace`): the last line before
     /// a crash.
     pub fn announce(&self, call: &str, set: Set) {
@@ -70,7 +99,10 @@ impl Run {
     /// Judges a call: the number, the outputs, the work words, the inputs and every guard.
     pub fn judge(&mut self, made: Made) {
         self.calls += 1;
-        *self.seen.entry((made.call, made.number)).or_default() += 1;
+        let shapes = self.seen.entry((made.call, made.number)).or_default();
+        if !(1..=5).contains(&made.number) {
+            shapes.insert(Shape::of(made.set));
+        }
         if let Some(difference) = first_difference(&made) {
             eprintln!("DIFFERENT: {difference}");
             eprintln!("  {} {}", made.call, show_set(made.set));

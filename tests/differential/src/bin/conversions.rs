@@ -1,16 +1,30 @@
 //! The eight conversions beside the reference implementation.
 
+use std::collections::BTreeSet;
+
 use differential::compare::{from_octets, to_octets, Kind, KINDS};
 use differential::inputs;
 use differential::run::{run_group, Run};
-use differential::sets::{sets_with, DEGREES, MOST_Q, RANGES};
+use differential::sets::{largest_n, sets_with, DEGREES, MOST_Q, RANGES};
 use differential::spoil::{
     spoil_coefficient, spoil_input, spoil_length, spoil_padding, spoiled_number, ways,
 };
 use reference::octets::{numbers_to_octets, pack};
 use reference::Set;
 
+/// The n that are tried with every l and degree, beside the largest that is accepted.
 const RINGS: [u32; 8] = [2, 3, 7, 8, 9, 64, 1201, 4096];
+
+/// How many coefficients the library takes at once, in one loop or another.
+const BLOCKS: [usize; 3] = [32, 64, 128];
+
+/// The eight calls, each with its refusal of what it is given to convert.
+fn calls() -> impl Iterator<Item = (&'static str, u32)> {
+    KINDS.into_iter().flat_map(|kind| {
+        let from = if kind == Kind::Small { 7 } else { 8 };
+        [(kind.from_name(), from), (kind.to_name(), 8)]
+    })
+}
 
 /// The least number that a coefficient of this kind may not be.
 fn limit(kind: Kind, set: Set) -> u32 {
@@ -46,35 +60,59 @@ fn places(run: &mut Run, length: usize) -> Vec<usize> {
     any.chain([0, length - 1]).collect()
 }
 
-/// One coefficient at the limits of what is accepted, the others anything.
-fn boundary_coefficients(run: &mut Run, set: Set, kind: Kind) {
+/// The places on both sides of where the first block of each size ends and the last one starts.
+fn edges(length: usize) -> BTreeSet<usize> {
+    BLOCKS
+        .into_iter()
+        .filter(|&block| block < length)
+        .flat_map(|block| [block, (length - 1) / block * block])
+        .flat_map(|edge| [edge - 1, edge])
+        .collect()
+}
+
+/// All the numbers at some places, and those next to the limit at the edges.
+fn trials(run: &mut Run, length: usize, limit: u32, numbers: &[u32]) -> Vec<(usize, u32)> {
+    let mut list = Vec::new();
+    for place in places(run, length) {
+        list.extend(numbers.iter().map(|&number| (place, number)));
+    }
+    for place in edges(length) {
+        list.extend([(place, limit - 1), (place, limit)]);
+    }
+    list
+}
+
+/// One word at the limits of what is accepted, the others anything.
+fn boundary_words(run: &mut Run, set: Set, kind: Kind) {
     let limit = limit(kind, set);
+    let mut numbers = vec![0, limit - 1, limit, limit + 1, u32::MAX, 1 << 31];
+    if set.qlen() < 4 {
+        // Numbers whose low octets alone are accepted.
+        let past = 1 << (8 * set.qlen());
+        numbers.extend([past - 1, past, past + 1, past + limit - 1]);
+    }
+    numbers.extend([256, 256 + limit.min(256) - 1, 1 << 16, 1 << 24]);
     let words = inputs::below(limit, kind.words(set), &mut run.prng);
-    for place in places(run, words.len()) {
-        let mut list = vec![0, limit - 1, limit, limit + 1, u32::MAX, 1 << 31];
-        if set.qlen() < 4 {
-            // Numbers whose low octets alone are accepted.
-            let past = 1 << (8 * set.qlen());
-            list.extend([past - 1, past, past + 1, past + limit - 1]);
-        }
-        list.extend([256, 256 + limit.min(256) - 1, 1 << 16, 1 << 24]);
-        for number in list {
-            let mut words = words.clone();
-            words[place] = number;
-            let (answer, _) = to_octets(run, set, kind, &words, kind.octets(set));
-            let wanted = if number < limit { 0 } else { 8 };
-            run.expect(answer == wanted, set, "a word of l or q or more is 8");
-        }
-        if kind != Kind::Small {
-            let qlen = set.qlen();
-            for number in [0, limit - 1, limit, u32::MAX >> (32 - 8 * qlen)] {
-                let mut octets = octets_of(kind, set, &words);
-                octets[place * qlen..][..qlen].copy_from_slice(&number.to_le_bytes()[..qlen]);
-                let (answer, _) = from_octets(run, set, kind, &octets, words.len());
-                let wanted = if number < limit { 0 } else { 8 };
-                run.expect(answer == wanted, set, "a coefficient of q or more is 8");
-            }
-        }
+    for (place, number) in trials(run, words.len(), limit, &numbers) {
+        let mut words = words.clone();
+        words[place] = number;
+        let (answer, _) = to_octets(run, set, kind, &words, kind.octets(set));
+        let wanted = if number < limit { 0 } else { 8 };
+        run.expect(answer == wanted, set, "a word of l or q or more is 8");
+    }
+}
+
+/// The same of octets, where they can hold more than what is accepted.
+fn boundary_coefficients(run: &mut Run, set: Set, kind: Kind) {
+    let (q, qlen, length) = (set.q, set.qlen(), kind.words(set));
+    let octets = inputs::coefficients(set, length, &mut run.prng);
+    let numbers = [0, q - 1, q, u32::MAX >> (32 - 8 * qlen)];
+    for (place, number) in trials(run, length, q, &numbers) {
+        let mut octets = octets.clone();
+        octets[place * qlen..][..qlen].copy_from_slice(&number.to_le_bytes()[..qlen]);
+        let (answer, _) = from_octets(run, set, kind, &octets, length);
+        let wanted = if number < q { 0 } else { 8 };
+        run.expect(answer == wanted, set, "a coefficient of q or more is 8");
     }
 }
 
@@ -140,7 +178,10 @@ fn one_set(run: &mut Run, set: Set) {
         for _ in 0..rounds {
             there_and_back(run, set, kind);
         }
-        boundary_coefficients(run, set, kind);
+        boundary_words(run, set, kind);
+        if kind != Kind::Small {
+            boundary_coefficients(run, set, kind);
+        }
         garbage(run, set, kind);
         refusals(run, set, kind, if set.n <= 64 { 20 } else { 4 });
     }
@@ -175,32 +216,65 @@ fn worked(run: &mut Run) {
     run.expect(number == 7, set, "an unused bit is 7");
 }
 
+/// No q is accepted: refusal 4, whatever the lengths are.
+fn too_large(run: &mut Run, l: u32, n: u32, (dx, dr): (u32, u32)) {
+    let set = Set {
+        l,
+        q: MOST_Q,
+        n,
+        dx,
+        dr,
+        mlen: 0,
+    };
+    for kind in KINDS {
+        let length = kind.words(set);
+        from_octets(run, set, kind, &vec![0; kind.octets(set)], length);
+        to_octets(run, set, kind, &vec![0; length], kind.octets(set));
+    }
+}
+
+/// The n of the list and the largest that is accepted.
+fn rings(l: u32, (dx, dr): (u32, u32)) -> BTreeSet<u32> {
+    let largest = largest_n(l, dx + dr);
+    RINGS.into_iter().chain([largest]).collect()
+}
+
+/// Each call accepted, and refused for what it held, with every l and every qlen; it accepted every n
+/// of the list, and the largest of each l.
+fn nothing_left_out(run: &Run) {
+    for (call, refused) in calls() {
+        for number in [0, refused] {
+            for l in RANGES {
+                let seen = run.gave(call, number, |shape| shape.l == l);
+                assert!(seen, "{call} never answered {number} with l {l}");
+            }
+            for qlen in 1..=4 {
+                let seen = run.gave(call, number, |shape| shape.qlen == qlen);
+                assert!(seen, "{call} never answered {number} with qlen {qlen}");
+            }
+        }
+        for n in RINGS {
+            let seen = run.gave(call, 0, |shape| shape.n == n);
+            assert!(seen, "{call} never accepted n {n}");
+        }
+        for l in RANGES {
+            let n = largest_n(l, 2);
+            let seen = run.gave(call, 0, |shape| (shape.l, shape.n) == (l, n));
+            assert!(seen, "{call} never accepted n {n} with l {l}");
+        }
+    }
+}
+
 fn round(run: &mut Run) {
     worked(run);
-    let mut qlens = [false; 5];
-    for n in RINGS {
-        for l in RANGES {
-            for degrees in DEGREES {
+    for l in RANGES {
+        for degrees in DEGREES {
+            for n in rings(l, degrees) {
                 let sets = sets_with(l, n, degrees, &mut run.prng);
                 if sets.is_empty() {
-                    // No q is accepted: refusal 4, whatever the lengths are.
-                    let (dx, dr) = degrees;
-                    let set = Set {
-                        l,
-                        q: MOST_Q,
-                        n,
-                        dx,
-                        dr,
-                        mlen: 0,
-                    };
-                    for kind in KINDS {
-                        let length = kind.words(set);
-                        from_octets(run, set, kind, &vec![0; kind.octets(set)], length);
-                        to_octets(run, set, kind, &vec![0; length], kind.octets(set));
-                    }
+                    too_large(run, l, n, degrees);
                 }
                 for set in sets {
-                    qlens[set.qlen()] = true;
                     if !run.skips() {
                         one_set(run, set);
                     }
@@ -208,21 +282,17 @@ fn round(run: &mut Run) {
             }
         }
     }
-    assert_eq!(qlens, [false, true, true, true, true]);
+    if !run.is_short() {
+        nothing_left_out(run);
+    }
 }
 
 fn main() {
-    let coefficient: &[u32] = &[0, 1, 2, 3, 4, 5, 6, 8];
-    let padding: &[u32] = &[0, 1, 2, 3, 4, 5, 6, 7];
-    let mut numbers = Vec::new();
-    for kind in KINDS {
-        let from = if kind == Kind::Small {
-            padding
-        } else {
-            coefficient
-        };
-        numbers.push((kind.from_name(), from));
-        numbers.push((kind.to_name(), coefficient));
-    }
+    let numbers: Vec<(&str, &[u32])> = calls()
+        .map(|(call, refused)| match refused {
+            7 => (call, &[0, 1, 2, 3, 4, 5, 6, 7][..]),
+            _ => (call, &[0, 1, 2, 3, 4, 5, 6, 8][..]),
+        })
+        .collect();
     run_group("conversions", &numbers, round);
 }
