@@ -11,40 +11,26 @@ use Prim.Native.Nat.{ℕ, zero, suc, _+_, _-_, _*_, _%_, _^_, _≤_, _<_, min}
 use mathlib.Core.Path.{_≡_, refl, sym, ap, _∙_}
 use mathlib.Core.Bool.{true}
 use mathlib.Core.List.{List, [], _∷_, _++_, append-nil, append-assoc}
-use native.Mathlib.Nat.{add-zero, suc-mul, mul-comm, mul-le-mul-right, mul-le-mul-left, mod-eq-of-lt, le-trans, lt-of-le-of-lt, lt-of-lt-of-le}
+use native.Mathlib.Nat.{add-zero, suc-mul, mul-le-mul-right, mul-le-mul-left, mod-eq-of-lt, le-trans, lt-of-le-of-lt}
 use native.Mathlib.Numerals.{add-one}
 use native.Mathlib.Omega.{arith}
-use lib.Pow.{pow-pos, pow-add, pow-mono, shl-exact}
-use lib.ListN.{length, getD, take, drop, set, length-take, length-drop}
-use lib.Seq.{take-suc, getD-drop, length-take-le}
+use lib.Pow.{pow-pos, pow-add, shl-exact}
+use lib.ListN.{length, getD, take, drop, set}
 use Rattle.definitions.specs.Sequences.{sum, tabulate, joined}
 use Rattle.definitions.specs.Octets.{octetsOf, regrouped, encoded, coefficientsFit}
 use Rattle.definitions.proofs.Filling.{tabulate-snoc}
 use Rattle.definitions.proofs.Sums.{tabulate-cong}
-use Rattle.definitions.proofs.Octets.{AllBelow, below-take, below-drop, coefficientsFit-below}
+use Rattle.definitions.proofs.Octets.{AllBelow, coefficientsFit-below}
 use Rattle.octets.proofs.Laws.{encoded-snoc}
 use Rattle.packing.specs.Fields.{valueIn, fieldsOf}
 use Rattle.packing.specs.Lanes.{laneFrom, lanesIn, laneNumber, groupNumber}
-use Rattle.packing.proofs.Fields.{value-below, value-snoc, octetsOf-fields, regrouped-group}
+use Rattle.packing.proofs.Fields.{octetsOf-fields, regrouped-group}
 use Rattle.packing.proofs.Groups.{four-stored, four-read, put-step}
-use Rattle.packing.proofs.Shifts.{shift-end}
+use Rattle.packing.proofs.Shifts.{shift-end, value-next, value-fits}
 
 -- ---- the lanes of a group
 
 module _ (words : List ℕ) (at b : ℕ) where
-  value-next : (k : ℕ) → at + k < length words
-      → valueIn b (take (suc k) (drop at words)) ≡ valueIn b (take k (drop at words)) + getD words (at + k) 0 * 2 ^ (k * b)
-  value-next k inside =
-      let room : k < length (drop at words) = omega (arith, length-drop at words) in
-      let whole : length (take k (drop at words)) ≡ k = length-take-le k (drop at words) (omega arith) in
-      rw (
-        take-suc (drop at words) k 0 room,
-        value-snoc b (take k (drop at words)) (getD (drop at words) k 0),
-        whole,
-        getD-drop at words k 0,
-        mul-comm (getD words (at + k) 0) (2 ^ (k * b)),
-      )
-
   weight : (k : ℕ) → 2 ^ (suc k * b) ≡ 2 ^ b * 2 ^ (k * b)
   weight k = ap (λ (e : ℕ). 2 ^ e) (omega (arith, suc-mul k b)) ∙ pow-add 2 b (k * b)
 
@@ -59,10 +45,10 @@ module _ (words : List ℕ) (at b : ℕ) where
       let e3 : getD words (at + suc (suc (suc (rows * 4)))) 0 ≡ getD words (at + 3 + rows * 4) 0 = ap (λ (i : ℕ). getD words i 0) (omega arith) in
       rw (
         count,
-        value-next (suc (suc (suc (rows * 4)))) (omega arith),
-        value-next (suc (suc (rows * 4))) (omega arith),
-        value-next (suc (rows * 4)) (omega arith),
-        value-next (rows * 4) (omega arith),
+        value-next words at b (suc (suc (suc (rows * 4)))) (omega arith),
+        value-next words at b (suc (suc (rows * 4))) (omega arith),
+        value-next words at b (suc (rows * 4)) (omega arith),
+        value-next words at b (rows * 4) (omega arith),
         weight (suc (suc (rows * 4))),
         weight (suc (rows * 4)),
         weight (rows * 4),
@@ -83,22 +69,13 @@ module _ (b x : ℕ) (xs : List ℕ) where
   unfolding valueIn
   value-tail = omega (arith, mul-le-mul-right (valueIn b xs) (pow-pos b))
 
--- coefficients that have at most 32 bits together
-pub part-fits : (words : List ℕ) (at b count : ℕ) → coefficientsFit (2 ^ b) words ≡ true → count * b ≤ 32 → valueIn b (take count (drop at words)) < 4294967296
-part-fits words at b count fit narrow =
-    let short : length (take count (drop at words)) ≤ count = omega (arith, length-take count (drop at words)) in
-    let bits : length (take count (drop at words)) * b ≤ 32 = le-trans (mul-le-mul-right b short) narrow in
-    lt-of-lt-of-le
-    (value-below b (take count (drop at words)) (below-take (2 ^ b) count (drop at words) (below-drop (2 ^ b) at words (coefficientsFit-below (2 ^ b) words fit))))
-    (pow-mono bits)
-
 module _ (words : List ℕ) (at b rows most : ℕ) (fit : coefficientsFit (2 ^ b) words ≡ true) (few : rows ≤ most) (narrow : most * 4 * b ≤ 32)
     (inside : at + most * 4 ≤ length words)
   where
     all-fit : valueIn b (lanesIn b rows at words) < 4294967296
     all-fit =
         let bits : rows * 4 * b ≤ 32 = le-trans (mul-le-mul-right b (mul-le-mul-right 4 few)) narrow in
-        rw (← lanes-whole words at b rows (omega arith)) (part-fits words at b (rows * 4) fit bits)
+        rw (← lanes-whole words at b rows (omega arith)) (value-fits words at b (rows * 4) fit bits)
 
     pub lanes-fit : (laneFrom b rows at words < 4294967296) × (laneFrom b rows (at + 1) words < 4294967296)
         × (laneFrom b rows (at + 2) words < 4294967296) × (laneFrom b rows (at + 3) words < 4294967296)
@@ -227,7 +204,7 @@ groups-step w places many numbers l r start some f pos same below values before 
 -- the number of a group's lanes is that of its coefficients
 pub number-fits : (words : List ℕ) (b many g : ℕ) {x : ℕ} → coefficientsFit (2 ^ b) words ≡ true → many * b ≤ 4 → x ≡ groupNumber b (many * 8) words g → x < 4294967296
 unfolding groupNumber
-number-fits words b many g fit small e = rw e (part-fits words (g * (many * 8)) b (many * 8) fit (omega (arith, small)))
+number-fits words b many g fit small e = rw e (value-fits words (g * (many * 8)) b (many * 8) fit (omega (arith, small)))
 
 pub groups-end : (g some groups len : ℕ) {total : ℕ} → g < groups → some ≡ min (groups - g) 16 → groups * len ≤ total → (g + some) * len ≤ total
 groups-end g some groups len inside e h =

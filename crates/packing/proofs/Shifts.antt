@@ -2,7 +2,8 @@
 --
 --   shift-..         the place of a coefficient's first bit is below 32, its end at most 32
 --   shl-one          2^b as the code makes it
---   gather-..        the number of the coefficients before a place, with one more
+--   value-next       the number of one coefficient more;  value-fits: it has at most 32 bits
+--   gather-..        the same as the code makes it
 -- Assumes nothing.
 use Prim.Native.Nat.{ℕ, suc, _+_, _*_, _%_, _^_, _≤_, _<_}
 use mathlib.Core.Path.{_≡_, _∙_}
@@ -32,30 +33,36 @@ module _ (k count b : ℕ) (few : k < count) (narrow : count * b ≤ 32) where
 pub shl-one : (b : ℕ) → b ≤ 4 → 1 * 2 ^ b % 4294967296 ≡ 2 ^ b
 shl-one b l = shl-exact {a = 1} 1 b 32 (omega arith) (omega arith) ∙ one-mul (2 ^ b)
 
+-- the number of one coefficient more
+pub value-next : (words : List ℕ) (at b k : ℕ) → at + k < length words
+    → valueIn b (take (suc k) (drop at words)) ≡ valueIn b (take k (drop at words)) + getD words (at + k) 0 * 2 ^ (k * b)
+value-next words at b k inside =
+    let room : k < length (drop at words) = omega (arith, length-drop at words) in
+    let whole : length (take k (drop at words)) ≡ k = length-take-le k (drop at words) (omega arith) in
+    rw (
+      take-suc (drop at words) k 0 room,
+      value-snoc b (take k (drop at words)) (getD (drop at words) k 0),
+      whole,
+      getD-drop at words k 0,
+      mul-comm (getD words (at + k) 0) (2 ^ (k * b)),
+    )
+
+-- coefficients that have at most 32 bits together
+pub value-fits : (words : List ℕ) (at b count : ℕ) → coefficientsFit (2 ^ b) words ≡ true → count * b ≤ 32 → valueIn b (take count (drop at words)) < 4294967296
+value-fits words at b count fit narrow =
+    let short : length (take count (drop at words)) ≤ count = omega (arith, length-take count (drop at words)) in
+    let bits : length (take count (drop at words)) * b ≤ 32 = le-trans (mul-le-mul-right b short) narrow in
+    lt-of-lt-of-le
+    (value-below b (take count (drop at words)) (below-take (2 ^ b) count (drop at words) (below-drop (2 ^ b) at words (coefficientsFit-below (2 ^ b) words fit))))
+    (pow-mono bits)
+
 module _ (words : List ℕ) (at b k count : ℕ) (fit : coefficientsFit (2 ^ b) words ≡ true) (few : k < count) (narrow : count * b ≤ 32) (inside : at + k < length words) where
   pub gather-step : {x : ℕ} → x ≡ valueIn b (take k (drop at words))
       → x + getD words (at + k) 0 * 2 ^ (k * b) % 4294967296 ≡ valueIn b (take (k + 1) (drop at words))
   gather-step e =
       let exact : getD words (at + k) 0 * 2 ^ (k * b) % 4294967296 ≡ getD words (at + k) 0 * 2 ^ (k * b)
       = shl-exact b (k * b) 32 (coefficientsFit-below (2 ^ b) words fit (at + k) inside) (shift-end k count b few narrow) in
-      let room : k < length (drop at words) = omega (arith, length-drop at words) in
-      let whole : length (take k (drop at words)) ≡ k = length-take-le k (drop at words) (omega arith) in
-      rw (
-        exact,
-        e,
-        add-one k,
-        take-suc (drop at words) k 0 room,
-        value-snoc b (take k (drop at words)) (getD (drop at words) k 0),
-        whole,
-        getD-drop at words k 0,
-        mul-comm (getD words (at + k) 0) (2 ^ (k * b)),
-      )
+      rw (exact, e, add-one k, value-next words at b k inside)
 
   pub gather-fits : valueIn b (take (k + 1) (drop at words)) < 4294967296
-  gather-fits =
-      let short : length (take (k + 1) (drop at words)) ≤ count = omega (arith, length-take (k + 1) (drop at words)) in
-      let bits : length (take (k + 1) (drop at words)) * b ≤ 32 = le-trans (mul-le-mul-right b short) narrow in
-      lt-of-lt-of-le
-      (value-below b (take (k + 1) (drop at words))
-      (below-take (2 ^ b) (k + 1) (drop at words) (below-drop (2 ^ b) at words (coefficientsFit-below (2 ^ b) words fit))))
-      (pow-mono bits)
+  gather-fits = let most : k + 1 ≤ count = omega arith in value-fits words at b (k + 1) fit (le-trans (mul-le-mul-right b most) narrow)
