@@ -84,9 +84,6 @@ sum-pick-left n f {i} l = sum-cong n (λ j s. rw (sameNumber-comm i j)) ∙ sum-
 pub sum-pick-outside : (n : ℕ) (f : ℕ → ℕ) {i : ℕ} → n ≤ i → sum n (λ j. f j * sameNumber j i) ≡ 0
 sum-pick-outside n f {i} l = sum-zero n (λ k s. rw (sameNumber-other {j = k} {k = i} (λ e. omega arith)) (mul-zero (f k)))
 
-pub sum-pick-left-outside : (n : ℕ) (f : ℕ → ℕ) {i : ℕ} → n ≤ i → sum n (λ j. f j * sameNumber i j) ≡ 0
-sum-pick-left-outside n f {i} l = sum-cong n (λ j s. rw (sameNumber-comm i j)) ∙ sum-pick-outside n f l
-
 pub every-true : (n : ℕ) {f : ℕ → Bool} → ((k : ℕ) → k < n → f k ≡ true) → every n f ≡ true
 unfolding every
 every-true zero h = refl
