@@ -10,7 +10,7 @@ use Prim.Native.Nat.{ℕ, zero, suc, _+_, _*_, _/_, _%_, _^_, _≤_, _<_, suc-le
 use mathlib.Core.Path.{_≡_, refl, sym, ap, ap₂, _∙_}
 use mathlib.Core.Bool.{true}
 use mathlib.Core.List.{List, [], _∷_, _++_, append-assoc, append-nil}
-use native.Mathlib.Nat.{mul-zero, mod-lt, div-lt-iff-lt-mul, not-suc-le-zero, le-of-suc-le-suc, zero-lt-suc, zero-mul, suc-mul, add-comm, pow-suc, le-trans, mul-le-mul-right, zero-add, suc-add}
+use native.Mathlib.Nat.{mul-zero, mod-lt, div-lt-iff-lt-mul, not-suc-le-zero, le-of-suc-le-suc, zero-lt-suc, zero-mul, suc-mul, add-comm, pow-suc, le-trans, mul-le-mul-right}
 use native.Mathlib.Omega.{arith}
 use lib.ListN.{length, getD, take, drop, length-append, take-append-drop, length-drop}
 use borrow.Author.Tests.{ltb-true, lt-ltb}
@@ -181,20 +181,6 @@ pub decoded-append : (qlen count : ℕ) (octets more : List ℕ) → count * qle
 unfolding decoded
 decoded-append qlen count octets more h =
     tabulate-cong count (λ m l. coefficientAt-append qlen octets more m (le-trans (mul-le-mul-right qlen l) h))
-
--- so many coefficients, then so many more
-pub decoded-add : (qlen a b : ℕ) (octets : List ℕ) → decoded qlen (a + b) octets ≡ decoded qlen a octets ++ decoded qlen b (drop (a * qlen) octets)
-decoded-add qlen zero b octets = rw (zero-add b, zero-mul qlen) (unfold decoded tabulate in refl)
-decoded-add qlen (suc a) b octets =
-    rw (
-      suc-add a b,
-      decoded-suc qlen a octets,
-      decoded-suc qlen (a + b) octets,
-      decoded-add qlen a b (drop qlen octets),
-      drop-drop (a * qlen) qlen octets,
-      suc-mul a qlen,
-      add-comm (a * qlen) qlen,
-    )
 
 -- ---- the test that each coefficient is below q
 
