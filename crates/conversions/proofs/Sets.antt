@@ -1,14 +1,12 @@
 -- What an accepted set gives the conversions: sizes that fit, and what the judge answers in the definitions' words.
 --
 --   elements-fit     the words of so many elements;  elements-octets: their octets, by words
---   ..-most          the degrees
 --   elements-judged  the answer of a judge of octets
 -- Assumes nothing.
 use Prim.Native.Nat.{ℕ, _*_, _/_, _^_, _≤_, _<_}
 use mathlib.Core.Path.{_≡_, refl, ap, _∙_}
 use mathlib.Core.Bool.{not}
 use mathlib.Core.List.{List, [], _∷_}
-use mathlib.Core.Logic.{_⊎_, ⊎-elim}
 use native.Mathlib.Nat.{mul-le-mul, mul-div-cancel}
 use native.Mathlib.Omega.{arith}
 use lib.ListN.{length}
@@ -19,18 +17,9 @@ use Rattle.definitions.specs.Calls.{elementsFit, decodedElements}
 use Rattle.definitions.proofs.Parameters.{Accepted, accepted-set, qlen-least, qlen-most, modulus-positive, modulus-word}
 use Rattle.judging.specs.Reading.{fitNumber}
 
-degree-most : {d : ℕ} → (d ≡ 1) ⊎ (d ≡ 2) → d ≤ 2
-degree-most h = ⊎-elim (λ e. omega arith) (λ e. omega arith) h
-
 module _ (p : Parameters) (accepted : firstRefusal (setTests p) ≡ 0) where
   set : Accepted p
   set = accepted-set p accepted
-
-  pub key-degree-most : p .dx ≤ 2
-  key-degree-most = degree-most (set .key-degree)
-
-  pub mask-degree-most : p .dr ≤ 2
-  mask-degree-most = degree-most (set .mask-degree)
 
   pub octets-least : 1 ≤ qlen (p .q)
   octets-least = qlen-least (p .q) (modulus-positive p set) (modulus-word p set)

@@ -27,6 +27,7 @@ use Rattle.monomials.specs.declared.Exponents.{Exponents}
 use Rattle.ring.specs.Work.{part, written}
 use Rattle.ring.proofs.Work.{part-written, getD-written-before, getD-written, getD-written-after, length-written, length-written-tabulate}
 use Rattle.values.specs.Folding.{flat}
+use Rattle.values.proofs.Parts.{part-room}
 use Rattle.mask_products.specs.Products.{maskIn, pairTerm, Inputs, Summed}
 
 -- a list of at most degree 2 has at most six monomials
@@ -36,9 +37,6 @@ count-six zero l = omega arith
 count-six (suc zero) l = omega arith
 count-six (suc (suc zero)) l = omega arith
 count-six (suc (suc (suc d))) l = absurd (omega arith)
-
-pub part-room : (n j most : ℕ) → j < most → j * n + n ≤ most * n
-part-room n j most l = let h : suc j * n ≤ most * n = mul-le-mul-right n l in omega arith
 
 -- a test as a number
 flag-cases : (t : Bool) → (_≡_ {A = ℕ} (cond t 1 0) 0) ⊎ (_≡_ {A = ℕ} (cond t 1 0) 1)
