@@ -7,17 +7,18 @@
 --   ..-degree-most    dX and dr are at most 2
 --   elementsLength-count  the coefficients of so many elements;  smallLength-room: the octets of a small element have room for its bits
 -- Assumes nothing.
-use Prim.Native.Nat.{ℕ, zero, suc, _+_, _-_, _*_, _/_, _%_, _^_, _≤_, _<_}
-use mathlib.Core.Path.{_≡_, refl, sym, ap, _∙_, subst}
+use Prim.Native.Nat.{ℕ, suc, _+_, _-_, _*_, _/_, _%_, _^_, _≤_, _<_}
+use mathlib.Core.Path.{_≡_, refl, sym, subst}
 use mathlib.Core.Logic.{_⊎_, inl, inr, ⊎-elim}
 use mathlib.Core.Bool.{true}
-use native.Mathlib.Nat.{div-add-mod', div-mul-le-self, mul-div-cancel, le-div-iff-mul-le, lt-of-lt-of-le, pow-suc}
+use native.Mathlib.Nat.{div-add-mod', div-mul-le-self, mul-div-cancel, le-div-iff-mul-le, lt-of-lt-of-le}
 use native.Mathlib.Omega.{arith}
 use borrow.Author.Tests.{eqb-true, leb-true, ltb-true, not-false}
 use lib.Count.{leadingZeros, leading-top, leading-length}
-use lib.Pow.{pow-mono, pow-add}
+use lib.Pow.{pow-mono}
 use Rattle.definitions.specs.Refusals.{firstRefusal}
 use Rattle.definitions.specs.Parameters.{Parameters, smallBits, bound, headroom, rangeFits, ringFits, isDegree, degreeFits, modulusFits, messageFits, setTests, bitLength, qlen, smallLength, secretLength, elementsLength}
+use Rattle.definitions.proofs.Powers.{pow-octets}
 use Rattle.definitions.proofs.Tests.{both-true, either-true}
 use Rattle.definitions.proofs.Refusals.{Numbered, firstRefusal-passed}
 
@@ -172,13 +173,6 @@ qlen-least q pos h = omega (arith, bitLength-positive q pos h)
 pub qlen-most : (q : ℕ) → qlen q ≤ 4
 unfolding qlen
 qlen-most q = omega (arith, bitLength-most q)
-
--- k octets are 8 × k bits
-pub pow-octets : (k : ℕ) → 2 ^ (8 * k) ≡ 256 ^ k
-pow-octets zero = refl
-pow-octets (suc k) =
-    let e : 8 * suc k ≡ 8 * k + 8 = omega arith in
-    ap (λ (x : ℕ). 2 ^ x) e ∙ pow-add 2 (8 * k) 8 ∙ ap (λ (x : ℕ). x * 256) (pow-octets k) ∙ sym (pow-suc 256 k)
 
 pub qlen-bits : (q : ℕ) → 2 ^ bitLength q ≤ 256 ^ qlen q
 unfolding qlen

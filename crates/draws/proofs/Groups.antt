@@ -5,14 +5,13 @@
 --   drawsAt          so many draws from the octets at a place on
 -- Assumes nothing.
 use Prim.Native.Nat.{ℕ, suc, _+_, _-_, _*_, _/_, _%_, _^_, _≤_, _<_}
-use native.Mathlib.Nat.{one-mul, mul-div-le, mul-le-mul-left}
+use native.Mathlib.Nat.{mul-div-le, mul-le-mul-left}
 use native.Mathlib.Decide.{decLt}
 use native.Mathlib.Omega.{arith}
 use mathlib.Core.Path.{_≡_, _∙_}
 use mathlib.Core.Bool.{false}
 use mathlib.Core.List.{List, _∷_}
-use lib.Dec.{lit<}
-use lib.Pow.{pow-mono, shl-exact}
+use lib.Pow.{pow-mono}
 use lib.ListN.{length, take, drop, length-drop}
 use lib.Seq.{drop-drop}
 use Rattle.definitions.specs.Parameters.{bitLength, qlen}
@@ -28,9 +27,6 @@ bitLength-short q pos fits =
       | yes l ↦ l
       | no g ↦ let z : ⊥ = omega (arith, bitLength-below q pos (omega arith), pow-mono {i = 31} {j = bitLength q - 1} (omega arith)) in absurd z
     ]
-
-pub bit-shifted : (k : ℕ) → k < 32 → 1 * 2 ^ k % 2 ^ 32 ≡ 2 ^ k
-bit-shifted k h = shl-exact 1 k 32 (lit< tt) (omega arith) ∙ one-mul (2 ^ k)
 
 abbrev pub groupAt : ℕ → List ℕ → ℕ → ℕ
 groupAt q random at = numberOf (take (qlen q) (drop at random)) % 2 ^ bitLength q
