@@ -4,18 +4,19 @@
 --   elements-judged  the answer of a judge of octets
 -- Assumes nothing.
 use Prim.Native.Nat.{ℕ, _*_, _/_, _^_, _≤_, _<_}
-use mathlib.Core.Path.{_≡_, refl, ap, _∙_}
+use mathlib.Core.Path.{_≡_, refl, _∙_}
 use mathlib.Core.Bool.{not}
 use mathlib.Core.List.{List, [], _∷_}
-use native.Mathlib.Nat.{mul-le-mul, mul-div-cancel}
+use native.Mathlib.Nat.{mul-le-mul}
 use native.Mathlib.Omega.{arith}
 use lib.ListN.{length}
 use Rattle.definitions.specs.Refusals.{refuse, firstRefusal}
 use Rattle.definitions.specs.Parameters.{Parameters, qlen, elementsLength, setTests}
 use Rattle.definitions.specs.Octets.{decoded}
-use Rattle.definitions.specs.Calls.{elementsFit, decodedElements}
+use Rattle.definitions.specs.Calls.{elementsFit}
 use Rattle.definitions.proofs.Parameters.{Accepted, accepted-set, qlen-least, qlen-most, modulus-positive, modulus-word}
 use Rattle.judging.specs.Reading.{fitNumber}
+use Rattle.judging.proofs.Judged.{judged}
 
 module _ (p : Parameters) (accepted : firstRefusal (setTests p) ≡ 0) where
   set : Accepted p
@@ -36,7 +37,5 @@ module _ (p : Parameters) (accepted : firstRefusal (setTests p) ≡ 0) where
 
     pub elements-judged : {r : ℕ} → r ≡ fitNumber (p .q) (decoded len (length octets / len) octets)
         → r ≡ firstRefusal (refuse 8 (not (elementsFit p elements octets)) ∷ [])
-    unfolding fitNumber elementsFit decodedElements
-    elements-judged e =
-        let count : length octets / len ≡ elements * p .n = ap (λ (m : ℕ). m / len) elements-octets ∙ mul-div-cancel (elements * p .n) (rw k octets-least) in
-        rw (← k, ← count) e
+    unfolding fitNumber elementsFit
+    elements-judged e = judged p set elements octets exact k e
