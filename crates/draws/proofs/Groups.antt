@@ -1,6 +1,6 @@
--- Which groups of octets there are and how each is reduced: a complete group stands before the groups of what follows it, and a mask of k
--- ones reduces modulo 2 ^ k.
+-- Which groups of octets there are: a complete group stands before the groups of what follows it, and what is left at the end is none.
 --
+--   bitLength-short  a q below 2 ^ 31 has fewer than 32 bits
 --   groupAt          the group at a place, reduced
 --   drawsAt          so many draws from the octets at a place on
 -- Assumes nothing.
@@ -20,7 +20,6 @@ use Rattle.definitions.specs.Draws.{Drawn, kept, dropped, candidates, draws}
 use Rattle.definitions.proofs.Parameters.{bitLength-below}
 use Rattle.definitions.proofs.Draws.{draws-kept, draws-dropped, draws-groups-le, length-candidates, candidates-cons, candidates-short}
 
--- a q below 2 ^ 31 has fewer than 32 bits
 pub bitLength-short : (q : ℕ) → 0 < q → q < 2 ^ 31 → bitLength q < 32
 bitLength-short q pos fits =
     elim (decLt (bitLength q) 32) [
