@@ -20,13 +20,13 @@ use Rattle.definitions.specs.Octets.{encoded}
 use Rattle.definitions.specs.Draws.{noiseDrawn}
 use Rattle.definitions.specs.Calls.{smallOf, octetsFrom, noiseOf, encryptedWith}
 use Rattle.definitions.proofs.Sums.{sum-cong, length-tabulate, tabulate-cong, tabulate-getD}
-use Rattle.definitions.proofs.Filling.{tabulate-add}
+use Rattle.definitions.proofs.Filling.{tabulate-add, length-borrowed}
 use Rattle.definitions.proofs.Ring.{conv-cong}
 use Rattle.definitions.proofs.Octets.{length-encoded, encoded-append}
 use Rattle.ring.specs.Work.{part, written}
 use Rattle.values.specs.Folding.{flat}
 use Rattle.mask_products.specs.Products.{maskIn, Summed}
-use Rattle.mask_products.proofs.Sums.{count-six, length-borrowed, summed-then}
+use Rattle.mask_products.proofs.Sums.{count-six, summed-then}
 use Rattle.ciphertext_elements.specs.Elements.{encryptedSum}
 
 abbrev pub SameUpTo : ℕ → ℕ → Polynomial → Polynomial → Type 0

@@ -1,36 +1,26 @@
 -- What an accepted set gives the conversions: sizes that fit, and what the judge answers in the definitions' words.
 --
 --   elements-fit     the words of so many elements;  elements-octets: their octets, by words
---   ..-most          the degrees
 --   elements-judged  the answer of a judge of octets
 -- Assumes nothing.
 use Prim.Native.Nat.{ℕ, _*_, _/_, _^_, _≤_, _<_}
-use mathlib.Core.Path.{_≡_, refl, ap, _∙_}
+use mathlib.Core.Path.{_≡_, refl, _∙_}
 use mathlib.Core.Bool.{not}
 use mathlib.Core.List.{List, [], _∷_}
-use mathlib.Core.Logic.{_⊎_, ⊎-elim}
-use native.Mathlib.Nat.{mul-le-mul, mul-div-cancel}
+use native.Mathlib.Nat.{mul-le-mul}
 use native.Mathlib.Omega.{arith}
 use lib.ListN.{length}
 use Rattle.definitions.specs.Refusals.{refuse, firstRefusal}
 use Rattle.definitions.specs.Parameters.{Parameters, qlen, elementsLength, setTests}
 use Rattle.definitions.specs.Octets.{decoded}
-use Rattle.definitions.specs.Calls.{elementsFit, decodedElements}
+use Rattle.definitions.specs.Calls.{elementsFit}
 use Rattle.definitions.proofs.Parameters.{Accepted, accepted-set, qlen-least, qlen-most, modulus-positive, modulus-word}
 use Rattle.judging.specs.Reading.{fitNumber}
-
-degree-most : {d : ℕ} → (d ≡ 1) ⊎ (d ≡ 2) → d ≤ 2
-degree-most h = ⊎-elim (λ e. omega arith) (λ e. omega arith) h
+use Rattle.judging.proofs.Judged.{judged}
 
 module _ (p : Parameters) (accepted : firstRefusal (setTests p) ≡ 0) where
   set : Accepted p
   set = accepted-set p accepted
-
-  pub key-degree-most : p .dx ≤ 2
-  key-degree-most = degree-most (set .key-degree)
-
-  pub mask-degree-most : p .dr ≤ 2
-  mask-degree-most = degree-most (set .mask-degree)
 
   pub octets-least : 1 ≤ qlen (p .q)
   octets-least = qlen-least (p .q) (modulus-positive p set) (modulus-word p set)
@@ -47,7 +37,5 @@ module _ (p : Parameters) (accepted : firstRefusal (setTests p) ≡ 0) where
 
     pub elements-judged : {r : ℕ} → r ≡ fitNumber (p .q) (decoded len (length octets / len) octets)
         → r ≡ firstRefusal (refuse 8 (not (elementsFit p elements octets)) ∷ [])
-    unfolding fitNumber elementsFit decodedElements
-    elements-judged e =
-        let count : length octets / len ≡ elements * p .n = ap (λ (m : ℕ). m / len) elements-octets ∙ mul-div-cancel (elements * p .n) (rw k octets-least) in
-        rw (← k, ← count) e
+    unfolding fitNumber elementsFit
+    elements-judged e = judged p set elements octets exact k e

@@ -4,7 +4,7 @@ use Prim.Native.Nat.{ℕ, _+_, _*_, _/_, _%_, _<_}
 use mathlib.Core.Path.{_≡_, refl, ap, _∙_}
 use mathlib.Core.Bool.{true}
 use mathlib.Core.List.{List}
-use native.Mathlib.Nat.{mod-eq-of-lt, mod-lt, zero-mod, div-add-mod, mul-le-mul-right, lt-of-le-of-lt, one-mul}
+use native.Mathlib.Nat.{mod-eq-of-lt, mod-lt, zero-mod, mul-le-mul-right, lt-of-le-of-lt, one-mul}
 use native.Mathlib.Omega.{arith}
 use native.Mathlib.Decide.{decLt}
 use borrow.Author.Tests.{eq-eqb}
@@ -18,7 +18,7 @@ use Rattle.definitions.specs.Calls.{smallOf, messageOf, decryptAnswer}
 use Rattle.definitions.specs.Demand3.{ZeroPastMessage, DecryptsTo}
 use Rattle.definitions.specs.Corollaries.{AllOctets, Fresh, Headroom, SumsRead, Totals, OwnSecret}
 use Rattle.definitions.proofs.Sums.{length-tabulate, getD-tabulate, tabulate-getD}
-use Rattle.definitions.proofs.Parameters.{Accepted, accepted-set, modulus-positive, bound-positive, smallBits-least, smallBits-power, range-least, headroom-fits, headroom-largest}
+use Rattle.definitions.proofs.Parameters.{Accepted, accepted-set, modulus-positive, bound-positive, smallBits-least, smallBits-power, range-least, headroom-fits, headroom-largest, message-coefficients}
 use Rattle.definitions.proofs.Packing.{ZeroFrom, length-unpacked, packed-unpacked, unpacked-packed-zeroFrom}
 use Rattle.definitions.proofs.Small.{smallOf-below}
 use Rattle.definitions.proofs.Calls.{encrypt-told, keygen-told}
@@ -46,15 +46,11 @@ module _ (p : Parameters) (a : Accepted p) where
       = rw (length-unpacked (smallBits (p .l)) (p .n) message) at (tabulate-getD (unpacked (smallBits (p .l)) (p .n) message) 0) in
       rw (same, ← exact) (packed-unpacked (smallBits (p .l)) (p .n) (p .mlen) message (smallBits-least p (a .range)) (a .message-most) octets padded)
 
-  -- mlen is a multiple of b, and the message's octets have room for its bits
-  whole : p .mlen / smallBits (p .l) * smallBits (p .l) ≡ p .mlen
-  whole = omega (arith, div-add-mod (p .mlen) (smallBits (p .l)), a .message-multiple)
-
   module _ (places : Element) (small : InRing (p .l) (p .n) places) (tail : ZeroPastMessage p places) where
     zeros : ZeroFrom (p .mlen / smallBits (p .l)) (tabulate (p .n) places)
     zeros k past =
         elim (decLt k (p .n)) [
-          | yes l ↦ getD-tabulate (p .n) places 0 l ∙ tail k (rw whole at (mul-le-mul-right (smallBits (p .l)) past))
+          | yes l ↦ getD-tabulate (p .n) places 0 l ∙ tail k (rw (message-coefficients p a) at (mul-le-mul-right (smallBits (p .l)) past))
           | no l ↦ List·getD-eq-default (tabulate (p .n) places) 0 (omega (arith, length-tabulate (p .n) places))
         ]
 
@@ -64,7 +60,7 @@ module _ (p : Parameters) (a : Accepted p) where
     smallOf-messageOf k l =
         ap (λ (xs : List ℕ). getD xs k 0)
         (unpacked-packed-zeroFrom (smallBits (p .l)) (p .n) ((p .mlen + 7) / 8) (tabulate (p .n) places) (smallBits-least p (a .range)) (length-tabulate (p .n) places)
-        (p .mlen / smallBits (p .l)) zeros (omega (arith, whole))
+        (p .mlen / smallBits (p .l)) zeros (omega (arith, message-coefficients p a))
         (λ i s. let inside : i < p .n = rw (length-tabulate (p .n) places) at s in
         rw (getD-tabulate (p .n) places 0 inside) (omega (arith, small i inside, smallBits-power p (a .range)))))
         ∙ getD-tabulate (p .n) places 0 l

@@ -3,7 +3,7 @@
 --   draws-kept, draws-dropped   one group: below q it is kept, otherwise dropped
 --   thenDrawn, draws-split      a + b draws are a draws, then b from the groups left
 --   draws-append                groups after enough draws change nothing;  draws-exhausted: without enough, all groups were taken
---   candidates-append           more octets: the same groups first;  candidates-cons, candidates-drop: the groups one by one
+--   candidates-append           more octets: the same groups first;  candidates-cons, candidates-short: the groups one by one
 --   keygenAnswer-append ..      an accepted call answers the same with more random octets
 -- Assumes nothing.
 use Prim.Native.Nat.{ℕ, zero, suc, _+_, _*_, _/_, _%_, _^_, _≤_, _<_}
@@ -11,7 +11,7 @@ use mathlib.Core.Path.{_≡_, refl, sym, ap, ap₂, _∙_}
 use mathlib.Core.Bool.{true, false, _&&_}
 use mathlib.Core.List.{List, [], _∷_, _++_}
 use native.Mathlib.Numerals.{add-one}
-use native.Mathlib.Nat.{zero-mul, add-comm, div-eq-sub-div, div-eq-of-lt, zero-add, suc-add, zero-lt-suc, le-of-suc-le-suc, le-trans, div-zero, div-mul-le-self, le-div-iff-mul-le, mul-le-mul-right, suc-mul}
+use native.Mathlib.Nat.{div-eq-sub-div, div-eq-of-lt, zero-add, suc-add, zero-lt-suc, le-of-suc-le-suc, le-trans, div-zero, div-mul-le-self, le-div-iff-mul-le, mul-le-mul-right, suc-mul}
 use native.Mathlib.Decide.{decLt}
 use native.Mathlib.Omega.{arith}
 use borrow.Author.Tests.{ltb-false, not-false, lt-ltb, le-ltb}
@@ -164,26 +164,6 @@ candidates-cons q random pos h =
 pub candidates-short : (q : ℕ) (random : List ℕ) → length random < qlen q → candidates q random ≡ []
 unfolding candidates tabulate
 candidates-short q random h = rw (div-eq-of-lt h)
-
--- after some groups come those of the octets after them
-pub candidates-drop : (q k : ℕ) (random : List ℕ) → 0 < qlen q → drop k (candidates q random) ≡ candidates q (drop (k * qlen q) random)
-candidates-drop q zero random pos = rw (zero-mul (qlen q))
-candidates-drop q (suc k) random pos =
-    elim (decLt (length random) (qlen q)) [
-      | yes h ↦ let short : length (drop (suc k * qlen q) random) < qlen q = omega (arith, length-drop (suc k * qlen q) random) in
-          rw (candidates-short q random h, candidates-short q (drop (suc k * qlen q) random) short)
-      | no g ↦ let full : qlen q ≤ length random = omega arith in
-          rw (candidates-cons q random pos full, suc-mul k (qlen q), add-comm (k * qlen q) (qlen q), ← drop-drop (k * qlen q) (qlen q) random)
-          (candidates-drop q k (drop (qlen q) random) pos)
-    ]
-
--- a + b draws are a draws, then b from the octets left
-pub draws-candidates-split : (q a b : ℕ) (random : List ℕ) → 0 < qlen q
-    → draws q (a + b) (candidates q random)
-    ≡ thenDrawn (draws q a (candidates q random)) (draws q b (candidates q (drop (draws q a (candidates q random) .groups * qlen q) random)))
-draws-candidates-split q a b random pos =
-    draws-split q a b (candidates q random)
-    ∙ ap (λ (xs : List ℕ). thenDrawn (draws q a (candidates q random)) (draws q b xs)) (candidates-drop q (draws q a (candidates q random) .groups) random pos)
 
 -- ---- the calls that draw
 

@@ -5,6 +5,7 @@
 --   fill-end         a list of which every place is right
 --   fill-from-step   the same after a front that is there already
 --   clear-step, -end the same for zeros
+--   length-borrowed  how many places a lent part has
 -- Assumes nothing.
 use Prim.Native.Nat.{ℕ, zero, suc, _+_, _-_, _≤_, _<_, zero-le, suc-le-suc}
 use mathlib.Core.Path.{_≡_, refl, sym, ap, ap₂, _∙_}
@@ -12,7 +13,7 @@ use mathlib.Core.List.{List, [], _∷_, _++_, append-assoc}
 use native.Mathlib.Nat.{zero-add, suc-add}
 use native.Mathlib.Numerals.{add-one}
 use native.Mathlib.Omega.{arith}
-use lib.ListN.{length, take, set, replicate, replicate-append-replicate}
+use lib.ListN.{length, take, drop, set, replicate, replicate-append-replicate, length-take, length-drop}
 use lib.Seq.{take-all, take-suc-set}
 use Rattle.definitions.specs.Sequences.{tabulate}
 use Rattle.definitions.proofs.Sums.{tabulate-cong}
@@ -62,3 +63,7 @@ module _ (front l : List ℕ) where
 
   pub clear-end : (at i n : ℕ) → length l ≡ n → i ≡ n → take i l ≡ front ++ replicate (i - at) 0 → l ≡ front ++ replicate (n - at) 0
   clear-end at i n len end e = rw (← end) (sym (take-all i l (omega arith)) ∙ e)
+
+-- a part that is lent to be filled
+pub length-borrowed : (at n : ℕ) (l : List ℕ) → at + n ≤ length l → length (take (at + n - at) (drop at l)) ≡ n
+length-borrowed at n l h = simp (length-take, length-drop) (omega arith)

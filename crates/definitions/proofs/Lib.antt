@@ -2,6 +2,7 @@
 pub mod WorkedCases
 pub mod Sums
 pub mod Filling
+pub mod Powers
 pub mod Congruence
 pub mod Ring
 pub mod Monomials

@@ -12,7 +12,7 @@ use native.Mathlib.Decide.{decLt, decLe, ℕ-discrete}
 use mathlib.Core.Path.{_≡_, refl, sym, _∙_, ap, ap₂}
 use mathlib.Core.Logic.{_⊎_, inl, inr, ⊎-elim}
 use lib.ListN.{length, drop, length-append, List·getD-append}
-use lib.Seq.{getD-append-add, drop-append-add, getD-drop}
+use lib.Seq.{getD-append-add, drop-append-add}
 use borrow.Author.Tests.{eq-eqb, ne-eqb}
 use Rattle.definitions.specs.Sequences.{sum, tabulate}
 use Rattle.definitions.specs.Parameters.{monomialCount}
@@ -102,10 +102,6 @@ monomials-tail d zero = rw (add-zero d, sub-self (monomialCount d))
 monomials-tail d (suc e) =
     let at : monomialCount (suc (d + e)) - monomialCount d ≡ length (ofDegree (suc (d + e))) + (monomialCount (d + e) - monomialCount d) = omega (arith, length-ofDegree (d + e), monomialCount-suc (d + e), monomialCount-mono d e) in
     rw (add-suc d e, at) (drop-append-add (ofDegree (suc (d + e))) (monomials (d + e)) _ ∙ monomials-tail d e)
-
-pub monomialAt-tail : (d e i : ℕ) → monomialAt (d + e) (monomialCount (d + e) - monomialCount d + i) ≡ monomialAt d i
-unfolding monomialAt
-monomialAt-tail d e i = sym (getD-drop (monomialCount (d + e) - monomialCount d) (monomials (d + e)) i _) ∙ rw monomials-tail
 
 monomial-path : (a b : Monomial) → a .x ≡ b .x → a .y ≡ b .y → a ≡ b
 monomial-path a b p q = λ i. record { x = p i; y = q i }

@@ -10,9 +10,9 @@ use Prim.Native.Nat.{ℕ, zero, suc, _+_, _*_, _/_, _%_, _^_, _≤_, _<_, suc-le
 use mathlib.Core.Path.{_≡_, refl, sym, ap, ap₂, _∙_}
 use mathlib.Core.Bool.{true}
 use mathlib.Core.List.{List, [], _∷_, _++_, append-assoc, append-nil}
-use native.Mathlib.Nat.{mul-zero, mod-lt, div-lt-iff-lt-mul, not-suc-le-zero, le-of-suc-le-suc, zero-lt-suc, zero-mul, suc-mul, add-comm, lt-of-lt-of-le, pow-le-pow-right, pow-suc, le-trans, mul-le-mul-right, zero-add, suc-add}
+use native.Mathlib.Nat.{mul-zero, mod-lt, div-lt-iff-lt-mul, not-suc-le-zero, le-of-suc-le-suc, zero-lt-suc, zero-mul, suc-mul, add-comm, pow-suc, le-trans, mul-le-mul-right}
 use native.Mathlib.Omega.{arith}
-use lib.ListN.{length, getD, take, drop, length-append, length-take, take-append-drop, length-drop}
+use lib.ListN.{length, getD, take, drop, length-append, take-append-drop, length-drop}
 use borrow.Author.Tests.{ltb-true, lt-ltb}
 use lib.Dec.{ltb}
 use lib.Seq.{take-append-le, drop-append-le, take-at, drop-at, drop-drop, length-take-le}
@@ -62,11 +62,6 @@ unfolding octetsOf
 length-octetsOf zero x = refl
 length-octetsOf (suc len) x = ap suc (length-octetsOf len (x / 256))
 
-pub octetsOf-below : (len x : ℕ) → AllBelow 256 (octetsOf len x)
-unfolding octetsOf
-octetsOf-below zero x = below-nil 256
-octetsOf-below (suc len) x = below-cons (octetsOf len (x / 256)) (omega arith) (octetsOf-below len (x / 256))
-
 pub numberOf-octetsOf : (len x : ℕ) → x < 256 ^ len → numberOf (octetsOf len x) ≡ x
 unfolding octetsOf numberOf
 numberOf-octetsOf zero x h = omega arith
@@ -101,13 +96,6 @@ pub coefficientAt-suc : (qlen : ℕ) (octets : List ℕ) (m : ℕ) → coefficie
 unfolding coefficientAt
 coefficientAt-suc qlen octets m = rw (drop-drop (m * qlen) qlen octets, suc-mul m qlen, add-comm (m * qlen) qlen)
 
-pub coefficientAt-below : (qlen : ℕ) (octets : List ℕ) (m : ℕ) → AllBelow 256 octets → coefficientAt qlen octets m < 256 ^ qlen
-unfolding coefficientAt
-coefficientAt-below qlen octets m h =
-    let group : List ℕ = take qlen (drop (m * qlen) octets) in
-    let short : length group ≤ qlen = omega (arith, length-take qlen (drop (m * qlen) octets)) in
-    lt-of-lt-of-le (numberOf-below group (below-take 256 qlen _ (below-drop 256 (m * qlen) octets h))) (pow-le-pow-right (omega arith) short)
-
 pub decoded-suc : (qlen count : ℕ) (octets : List ℕ) → decoded qlen (suc count) octets ≡ numberOf (take qlen octets) ∷ decoded qlen count (drop qlen octets)
 unfolding decoded tabulate
 decoded-suc qlen count octets =
@@ -133,11 +121,6 @@ length-decoded qlen count octets = length-tabulate count (coefficientAt qlen oct
 pub getD-decoded : (qlen count : ℕ) (octets : List ℕ) {m : ℕ} → m < count → getD (decoded qlen count octets) m 0 ≡ coefficientAt qlen octets m
 unfolding decoded
 getD-decoded qlen count octets l = getD-tabulate count (coefficientAt qlen octets) 0 l
-
-pub encoded-below : (qlen : ℕ) (xs : List ℕ) → AllBelow 256 (encoded qlen xs)
-unfolding encoded joined
-encoded-below qlen [] = below-nil 256
-encoded-below qlen (x ∷ xs) = below-append 256 (octetsOf qlen x) (encoded qlen xs) (octetsOf-below qlen x) (encoded-below qlen xs)
 
 pub encoded-append : (qlen : ℕ) (xs ys : List ℕ) → encoded qlen (xs ++ ys) ≡ encoded qlen xs ++ encoded qlen ys
 unfolding encoded joined
@@ -198,20 +181,6 @@ pub decoded-append : (qlen count : ℕ) (octets more : List ℕ) → count * qle
 unfolding decoded
 decoded-append qlen count octets more h =
     tabulate-cong count (λ m l. coefficientAt-append qlen octets more m (le-trans (mul-le-mul-right qlen l) h))
-
--- so many coefficients, then so many more
-pub decoded-add : (qlen a b : ℕ) (octets : List ℕ) → decoded qlen (a + b) octets ≡ decoded qlen a octets ++ decoded qlen b (drop (a * qlen) octets)
-decoded-add qlen zero b octets = rw (zero-add b, zero-mul qlen) (unfold decoded tabulate in refl)
-decoded-add qlen (suc a) b octets =
-    rw (
-      suc-add a b,
-      decoded-suc qlen a octets,
-      decoded-suc qlen (a + b) octets,
-      decoded-add qlen a b (drop qlen octets),
-      drop-drop (a * qlen) qlen octets,
-      suc-mul a qlen,
-      add-comm (a * qlen) qlen,
-    )
 
 -- ---- the test that each coefficient is below q
 

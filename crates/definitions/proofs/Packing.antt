@@ -174,10 +174,6 @@ pub unpacked-below : (b n : ℕ) (octets : List ℕ) → AllBelow (2 ^ b) (unpac
 unfolding unpacked
 unpacked-below b n octets = regrouped-below 8 b n octets
 
-pub packed-below : (b octets : ℕ) (coefficients : List ℕ) → AllBelow 256 (packed b octets coefficients)
-unfolding packed
-packed-below b octets coefficients = regrouped-below b 8 octets coefficients
-
 -- the bits past the last coefficient are 0
 pub paddingClear-packed-zeroFrom : (b c octets : ℕ) (coefficients : List ℕ) → 0 < b → ZeroFrom c coefficients
     → paddingClear (c * b) (packed b octets coefficients) ≡ true

@@ -5,20 +5,20 @@
 --   Accepted          what the five tests of an accepted set say, a field for each comparison
 --   bitLength-..      q has just that many bits;  qlen-..: and just that many octets
 --   ..-degree-most    dX and dr are at most 2
---   ..Length-positive no length of an accepted set is 0, the message's apart;  elementsLength-count: the coefficients of so many elements
+--   elementsLength-count  the coefficients of so many elements;  smallLength-room: the octets of a small element have room for its bits
 -- Assumes nothing.
-use Prim.Native.Nat.{ℕ, zero, suc, _+_, _-_, _*_, _/_, _%_, _^_, _≤_, _<_}
-use mathlib.Core.Path.{_≡_, refl, sym, ap, _∙_, subst}
+use Prim.Native.Nat.{ℕ, suc, _+_, _-_, _*_, _/_, _%_, _^_, _≤_, _<_}
+use mathlib.Core.Path.{_≡_, refl, sym, subst}
 use mathlib.Core.Logic.{_⊎_, inl, inr, ⊎-elim}
 use mathlib.Core.Bool.{true}
-use native.Mathlib.Nat.{div-add-mod', div-mul-le-self, mul-div-cancel, le-div-iff-mul-le, lt-of-lt-of-le, mul-pos, mul-le-mul, pow-suc}
+use native.Mathlib.Nat.{div-add-mod', div-mul-le-self, mul-div-cancel, le-div-iff-mul-le, lt-of-lt-of-le}
 use native.Mathlib.Omega.{arith}
-use borrow.Author.Tests.{eqb-true, leb-true, ltb-true, not-false, eq-eqb, le-leb, lt-ltb}
+use borrow.Author.Tests.{eqb-true, leb-true, ltb-true, not-false}
 use lib.Count.{leadingZeros, leading-top, leading-length}
-use lib.Pow.{pow-mono, pow-add}
+use lib.Pow.{pow-mono}
 use Rattle.definitions.specs.Refusals.{firstRefusal}
-use Rattle.definitions.specs.Parameters.{Parameters, smallBits, bound, headroom, rangeFits, ringFits, isDegree, degreeFits, modulusFits, messageFits, setTests, bitLength, qlen, monomialCount, smallLength, secretLength, elementsLength, publicLength, ciphertextLength, messageLength, workLength, degree}
-use Rattle.definitions.proofs.Monomials.{monomialCount-pos}
+use Rattle.definitions.specs.Parameters.{Parameters, smallBits, bound, headroom, rangeFits, ringFits, isDegree, degreeFits, modulusFits, messageFits, setTests, bitLength, qlen, smallLength, secretLength, elementsLength}
+use Rattle.definitions.proofs.Powers.{pow-octets}
 use Rattle.definitions.proofs.Tests.{both-true, either-true}
 use Rattle.definitions.proofs.Refusals.{Numbered, firstRefusal-passed}
 
@@ -117,10 +117,6 @@ passed-set p e =
 isDegree-cases : (d : ℕ) → isDegree d ≡ true → (d ≡ 1) ⊎ (d ≡ 2)
 isDegree-cases d e = ⊎-elim (λ a. inl (eqb-true d 1 a)) (λ a. inr (eqb-true d 2 a)) (either-true _ _ e)
 
-isDegree-of : (d : ℕ) → (d ≡ 1) ⊎ (d ≡ 2) → isDegree d ≡ true
-isDegree-of d (inl e) = rw e
-isDegree-of d (inr e) = rw e
-
 passed-accepted : (p : Parameters) → Passed p → Accepted p
 unfolding ringFits degreeFits modulusFits messageFits
 passed-accepted p t =
@@ -142,21 +138,6 @@ passed-accepted p t =
 
 pub accepted-set : (p : Parameters) → firstRefusal (setTests p) ≡ 0 → Accepted p
 accepted-set p e = passed-accepted p (passed-set p e)
-
-pub set-accepted : (p : Parameters) → Accepted p → firstRefusal (setTests p) ≡ 0
-unfolding setTests firstRefusal ringFits degreeFits modulusFits messageFits
-set-accepted p a =
-    rw (
-      a .range,
-      le-leb 2 (p .n) (a .ring-least),
-      le-leb (p .n) 4096 (a .ring-most),
-      isDegree-of (p .dx) (a .key-degree),
-      isDegree-of (p .dr) (a .mask-degree),
-      le-leb (p .q) 2147483647 (a .modulus-most),
-      lt-ltb (bound p) (p .q) (a .modulus-above),
-      le-leb (p .mlen) (p .n * smallBits (p .l)) (a .message-most),
-      eq-eqb (p .mlen % smallBits (p .l)) 0 (a .message-multiple),
-    )
 
 -- ---- the length of q in bits and in octets
 
@@ -193,13 +174,6 @@ pub qlen-most : (q : ℕ) → qlen q ≤ 4
 unfolding qlen
 qlen-most q = omega (arith, bitLength-most q)
 
--- k octets are 8 × k bits
-pub pow-octets : (k : ℕ) → 2 ^ (8 * k) ≡ 256 ^ k
-pow-octets zero = refl
-pow-octets (suc k) =
-    let e : 8 * suc k ≡ 8 * k + 8 = omega arith in
-    ap (λ (x : ℕ). 2 ^ x) e ∙ pow-add 2 (8 * k) 8 ∙ ap (λ (x : ℕ). x * 256) (pow-octets k) ∙ sym (pow-suc 256 k)
-
 pub qlen-bits : (q : ℕ) → 2 ^ bitLength q ≤ 256 ^ qlen q
 unfolding qlen
 qlen-bits q =
@@ -224,49 +198,19 @@ module _ (p : Parameters) (a : Accepted p) where
   pub modulus-word : p .q < 2 ^ 32
   modulus-word = omega (arith, a .modulus-most)
 
-  pub smallLength-positive : 1 ≤ smallLength p
-  unfolding smallLength
-  smallLength-positive =
-      let h : 2 * 1 ≤ p .n * smallBits (p .l) = mul-le-mul (a .ring-least) (smallBits-least p (a .range)) in omega arith
-
-  pub secretLength-positive : 1 ≤ secretLength p
-  unfolding secretLength
-  secretLength-positive = omega (arith, smallLength-positive)
-
-  elementsLength-positive : (elements : ℕ) → 1 ≤ elements → 1 ≤ elementsLength p elements
-  unfolding elementsLength
-  elementsLength-positive elements h =
-      mul-pos (mul-pos h (omega (arith, a .ring-least))) (qlen-least (p .q) modulus-positive modulus-word)
-
   -- so many elements have n coefficients each
   pub elementsLength-count : (elements : ℕ) → elementsLength p elements / qlen (p .q) ≡ elements * p .n
   unfolding elementsLength
   elementsLength-count elements = mul-div-cancel (elements * p .n) (qlen-least (p .q) modulus-positive modulus-word)
 
-  pub publicLength-positive : 1 ≤ publicLength p
-  unfolding publicLength
-  publicLength-positive = elementsLength-positive (monomialCount (p .dx)) (monomialCount-pos (p .dx))
-
-  pub ciphertextLength-positive : 1 ≤ ciphertextLength p
-  unfolding ciphertextLength
-  ciphertextLength-positive = elementsLength-positive (monomialCount (degree p)) (monomialCount-pos (degree p))
-
-  pub workLength-positive : 1 ≤ workLength p
-  unfolding workLength
-  workLength-positive = omega (arith, a .ring-least)
-
   -- a message is whole coefficients
   pub message-coefficients : p .mlen / smallBits (p .l) * smallBits (p .l) ≡ p .mlen
   message-coefficients = omega (arith, div-add-mod' (p .mlen) (smallBits (p .l)), a .message-multiple)
 
--- the octets of a small element and of a message have room for their bits
+-- the octets of a small element have room for its bits
 pub smallLength-room : (p : Parameters) → p .n * smallBits (p .l) ≤ 8 * smallLength p
 unfolding smallLength
 smallLength-room p = omega arith
-
-pub messageLength-room : (p : Parameters) → p .mlen ≤ 8 * messageLength p
-unfolding messageLength
-messageLength-room p = omega arith
 
 pub secretLength-halves : (p : Parameters) → secretLength p ≡ smallLength p + smallLength p
 unfolding secretLength

@@ -108,9 +108,6 @@ pub conv-scale-left : (n c : ℕ) (a b : Element) (k : ℕ) → conv n (scale c 
 unfolding conv scale
 conv-scale-left n c a b k = sum-cong n (λ i l. mul-assoc c (a i) _) ∙ sum-scale n c _
 
-pub conv-scale : (n c : ℕ) (a b : Element) (k : ℕ) → conv n a (scale c b) k ≡ c * conv n a b k
-conv-scale n c a b k = conv-comm n a (scale c b) k ∙ conv-scale-left n c b a k ∙ ap (λ (x : ℕ). c * x) (conv-comm n b a k)
-
 pub conv-sum-left : (n m : ℕ) (f : ℕ → Element) (b : Element) (k : ℕ) → conv n (λ j. sum m (λ i. f i j)) b k ≡ sum m (λ i. conv n (f i) b k)
 unfolding conv
 conv-sum-left n m f b k = sum-cong n (λ j l. sym (sum-scale-right m _ (λ i. f i j))) ∙ sum-comm n m (λ j i. f i j * sum n (λ h. b h * sameNumber ((j + h) % n) k))
@@ -204,9 +201,6 @@ power-add n a (suc i) j {k} l =
 -- t itself
 abbrev pub t : ℕ → Element
 t n k = sameNumber (1 % n) k
-
-pub conv-t : (n : ℕ) (a : Element) {k : ℕ} → k < n → conv n (t n) a k ≡ a ((k + (n - 1 % n)) % n)
-conv-t n a l = conv-shift n (mod-lt 1 {m = n} (omega arith)) a l
 
 pub power-t : (n i : ℕ) {k : ℕ} → k < n → power n (t n) i k ≡ sameNumber (i % n) k
 unfolding power one

@@ -17,7 +17,7 @@ use Rattle.definitions.specs.Octets.{unpacked, packed, paddingClear}
 use Rattle.definitions.specs.Calls.{smallOf, secretX, secretY, secretPadded}
 use Rattle.definitions.specs.Demand3.{secretOf, InSmallRing}
 use Rattle.definitions.proofs.Packing.{length-unpacked, length-packed, unpacked-below, unpacked-packed, paddingClear-packed, unpacked-tail}
-use Rattle.definitions.proofs.Parameters.{Accepted, smallBits-least, smallBits-power}
+use Rattle.definitions.proofs.Parameters.{Accepted, smallBits-least, smallBits-power, smallLength-room}
 
 pub smallOf-tail : (p : Parameters) (octets : List ℕ) (used : ℕ) → paddingClear used octets ≡ true
     → (k : ℕ) → used ≤ k * smallBits (p .l) → smallOf p octets k ≡ 0
@@ -41,14 +41,10 @@ module _ (p : Parameters) (a : Accepted p) where
   unfolding smallOf
   smallOf-below octets = unpacked-small octets .below
 
-  room : p .n * smallBits (p .l) ≤ 8 * smallLength p
-  unfolding smallLength
-  room = omega arith
-
   pub unpacked-element : (coefficients : List ℕ) → InSmallRing p coefficients
       → unpacked (smallBits (p .l)) (p .n) (packed (smallBits (p .l)) (smallLength p) coefficients) ≡ coefficients
   unpacked-element coefficients small =
-      unpacked-packed (smallBits (p .l)) (p .n) (smallLength p) coefficients (smallBits-least p (a .range)) (small .sized) room
+      unpacked-packed (smallBits (p .l)) (p .n) (smallLength p) coefficients (smallBits-least p (a .range)) (small .sized) (smallLength-room p)
       (λ k l. omega (arith, smallBits-power p (a .range), small .below k (rw (small .sized) at l)))
 
   padded-element : (coefficients : List ℕ) → InSmallRing p coefficients

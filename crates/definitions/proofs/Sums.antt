@@ -5,12 +5,13 @@ use native.Mathlib.Nat.{add-zero, add-suc, zero-add, zero-mul, mul-zero, mul-one
 use native.Mathlib.Omega.{arith}
 use native.Mathlib.Decide.{ℕ-discrete}
 use mathlib.Core.Path.{_≡_, refl, sym, _∙_, ap, ap₂}
-use mathlib.Core.Bool.{Bool, true, false, _&&_}
+use mathlib.Core.Bool.{Bool, true, _&&_}
 use mathlib.Core.List.{List, [], _∷_}
 use lib.ListN.{length, getD}
 use lib.Arith.{lt-of-le-ne}
 use borrow.Author.Tests.{eq-eqb, ne-eqb}
 use Rattle.definitions.specs.Sequences.{sum, every, tabulate, sameNumber}
+use Rattle.definitions.proofs.Tests.{both-true}
 
 pub sameNumber-self : (k : ℕ) → sameNumber k k ≡ 1
 sameNumber-self k = rw (eq-eqb k k refl)
@@ -84,9 +85,6 @@ sum-pick-left n f {i} l = sum-cong n (λ j s. rw (sameNumber-comm i j)) ∙ sum-
 pub sum-pick-outside : (n : ℕ) (f : ℕ → ℕ) {i : ℕ} → n ≤ i → sum n (λ j. f j * sameNumber j i) ≡ 0
 sum-pick-outside n f {i} l = sum-zero n (λ k s. rw (sameNumber-other {j = k} {k = i} (λ e. omega arith)) (mul-zero (f k)))
 
-pub sum-pick-left-outside : (n : ℕ) (f : ℕ → ℕ) {i : ℕ} → n ≤ i → sum n (λ j. f j * sameNumber i j) ≡ 0
-sum-pick-left-outside n f {i} l = sum-cong n (λ j s. rw (sameNumber-comm i j)) ∙ sum-pick-outside n f l
-
 pub every-true : (n : ℕ) {f : ℕ → Bool} → ((k : ℕ) → k < n → f k ≡ true) → every n f ≡ true
 unfolding every
 every-true zero h = refl
@@ -97,21 +95,13 @@ unfolding every
 every-cong zero h = refl
 every-cong (suc n) h = ap₂ _&&_ (every-cong n (λ k l. h k (le-step l))) (h n (lt-suc-self n))
 
-and-left : (a b : Bool) → (a && b) ≡ true → a ≡ true
-and-left true b e = refl
-and-left false b e = e
-
-and-right : (a b : Bool) → (a && b) ≡ true → b ≡ true
-and-right true b e = e
-and-right false b e = cc
-
 pub every-at : (n : ℕ) (f : ℕ → Bool) → every n f ≡ true → {k : ℕ} → k < n → f k ≡ true
 unfolding every
 every-at zero f e l = absurd (not-suc-le-zero l)
 every-at (suc n) f e {k} l =
     elim (ℕ-discrete k n) [
-      | yes g ↦ rw g (and-right (every n f) (f n) e)
-      | no g ↦ every-at n f (and-left (every n f) (f n) e) (lt-of-le-ne (le-of-suc-le-suc l) g)
+      | yes g ↦ rw g (both-true (every n f) (f n) e .1)
+      | no g ↦ every-at n f (both-true (every n f) (f n) e .0) (lt-of-le-ne (le-of-suc-le-suc l) g)
     ]
 
 module _ {A : Type 0} where

@@ -1,6 +1,6 @@
 -- The value of a polynomial in x and y at (u_x, u_y): it keeps sums, multiples and products, and a constant's value is itself.
 -- Assumes nothing.
-use Prim.Native.Nat.{ℕ, suc, _+_, _-_, _*_, _≤_, _<_}
+use Prim.Native.Nat.{ℕ, suc, _+_, _-_, _*_, _<_}
 use native.Mathlib.Nat.{zero-add, mul-comm}
 use native.Mathlib.Omega.{arith}
 use mathlib.Core.Path.{_≡_, refl, sym, _∙_, ap}
@@ -11,7 +11,7 @@ use Rattle.definitions.specs.Ring.{Element, scale, conv, one, power}
 use Rattle.definitions.specs.Monomials.{Monomial, Polynomial, monomialAt, constantTerm, sumOf, sameMonomial, productOf, evaluated, valueOver, value}
 use Rattle.definitions.proofs.Sums.{sum-cong, sum-add, sum-scale, sum-zero, sum-comm}
 use Rattle.definitions.proofs.Congruence.{Cong, cong-refl, cong-sum}
-use Rattle.definitions.proofs.Ring.{conv-interchange, conv-add-left, conv-scale-left, conv-sum-left, conv-sum, conv-cong, conv-cong-modulo, conv-zero-left, conv-outside, conv-one, conv-one-right, power-add}
+use Rattle.definitions.proofs.Ring.{conv-interchange, conv-add-left, conv-scale-left, conv-sum-left, conv-sum, conv-cong, conv-cong-modulo, conv-zero-left, conv-one, conv-one-right, power-add}
 use Rattle.definitions.proofs.Monomials.{times, monomialCount-pos, monomials-degree, monomials-last, monomials-once}
 
 pub value-add : (n d : ℕ) (f g : Polynomial) (ux uy : Element) (k : ℕ) → value n d (sumOf f g) ux uy k ≡ value n d f ux uy k + value n d g ux uy k
@@ -25,10 +25,6 @@ unfolding value valueOver
 value-scale n d c f ux uy k =
     sum-cong (monomialCount d) (λ i l. conv-scale-left n c (f i) (evaluated n (monomialAt d i) ux uy) k)
     ∙ sum-scale (monomialCount d) c _
-
-pub value-outside : (n d : ℕ) (f : Polynomial) (ux uy : Element) {k : ℕ} → n ≤ k → value n d f ux uy k ≡ 0
-unfolding value valueOver
-value-outside n d f ux uy out = sum-zero (monomialCount d) (λ i l. conv-outside n (f i) (evaluated n (monomialAt d i) ux uy) out)
 
 pub valueOver-suc : (terms n d : ℕ) (f : Polynomial) (ux uy : Element) (k : ℕ)
     → valueOver (suc terms) n d f ux uy k ≡ valueOver terms n d f ux uy k + conv n (f terms) (evaluated n (monomialAt d terms) ux uy) k

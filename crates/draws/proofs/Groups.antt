@@ -1,52 +1,31 @@
--- Which groups of octets there are and how each is reduced: a complete group stands before the groups of what follows it, and a mask of k
--- ones reduces modulo 2 ^ k.
+-- Which groups of octets there are: a complete group stands before the groups of what follows it, and what is left at the end is none.
 --
+--   bitLength-short  a q below 2 ^ 31 has fewer than 32 bits
 --   groupAt          the group at a place, reduced
 --   drawsAt          so many draws from the octets at a place on
 -- Assumes nothing.
 use Prim.Native.Nat.{ℕ, suc, _+_, _-_, _*_, _/_, _%_, _^_, _≤_, _<_}
-use native.Mathlib.Nat.{one-mul, div-eq-of-lt, div-eq-sub-div, mul-div-le, mul-le-mul-left}
-use native.Mathlib.Numerals.{add-one}
+use native.Mathlib.Nat.{mul-div-le, mul-le-mul-left}
 use native.Mathlib.Decide.{decLt}
 use native.Mathlib.Omega.{arith}
-use mathlib.Core.Path.{_≡_, _∙_, ap}
+use mathlib.Core.Path.{_≡_, _∙_}
 use mathlib.Core.Bool.{false}
-use mathlib.Core.List.{List, [], _∷_}
-use lib.Dec.{lit<}
-use lib.Pow.{pow-mono, shl-exact}
+use mathlib.Core.List.{List, _∷_}
+use lib.Pow.{pow-mono}
 use lib.ListN.{length, take, drop, length-drop}
 use lib.Seq.{drop-drop}
-use Rattle.definitions.specs.Sequences.{tabulate}
 use Rattle.definitions.specs.Parameters.{bitLength, qlen}
 use Rattle.definitions.specs.Octets.{numberOf}
 use Rattle.definitions.specs.Draws.{Drawn, kept, dropped, candidates, draws}
-use Rattle.definitions.proofs.Sums.{tabulate-cong}
-use Rattle.definitions.proofs.Octets.{coefficientAt-zero, coefficientAt-suc}
 use Rattle.definitions.proofs.Parameters.{bitLength-below}
-use Rattle.definitions.proofs.Draws.{draws-kept, draws-dropped, draws-groups-le, length-candidates}
+use Rattle.definitions.proofs.Draws.{draws-kept, draws-dropped, draws-groups-le, length-candidates, candidates-cons, candidates-short}
 
--- a q below 2 ^ 31 has fewer than 32 bits
 pub bitLength-short : (q : ℕ) → 0 < q → q < 2 ^ 31 → bitLength q < 32
 bitLength-short q pos fits =
     elim (decLt (bitLength q) 32) [
       | yes l ↦ l
       | no g ↦ let z : ⊥ = omega (arith, bitLength-below q pos (omega arith), pow-mono {i = 31} {j = bitLength q - 1} (omega arith)) in absurd z
     ]
-
-pub bit-shifted : (k : ℕ) → k < 32 → 1 * 2 ^ k % 2 ^ 32 ≡ 2 ^ k
-bit-shifted k h = shl-exact 1 k 32 (lit< tt) (omega arith) ∙ one-mul (2 ^ k)
-
-pub candidates-none : (q : ℕ) (random : List ℕ) → length random < qlen q → candidates q random ≡ []
-unfolding candidates tabulate
-candidates-none q random h = rw (div-eq-of-lt h)
-
-pub candidates-cons : (q : ℕ) (random : List ℕ) → 0 < qlen q → qlen q ≤ length random
-    → candidates q random ≡ numberOf (take (qlen q) random) % 2 ^ bitLength q ∷ candidates q (drop (qlen q) random)
-unfolding candidates tabulate
-candidates-cons q random pos fits =
-    rw (div-eq-sub-div pos fits, add-one, coefficientAt-zero, length-drop)
-    (ap (λ (l : List ℕ). numberOf (take (qlen q) random) % 2 ^ bitLength q ∷ l)
-    (tabulate-cong ((length random - qlen q) / qlen q) (λ k h. rw (coefficientAt-suc (qlen q) random k))))
 
 abbrev pub groupAt : ℕ → List ℕ → ℕ → ℕ
 groupAt q random at = numberOf (take (qlen q) (drop at random)) % 2 ^ bitLength q
@@ -72,7 +51,7 @@ module _ (q : ℕ) (random : List ℕ) (at : ℕ) where
   unfolding draws
   drawsAt-ended count short =
       let incomplete : length (drop at random) < qlen q = simp length-drop short in
-      rw (candidates-none q (drop at random) incomplete)
+      rw (candidates-short q (drop at random) incomplete)
 
   -- the groups taken are there
   pub drawsAt-within : (count : ℕ) → at ≤ length random → at + qlen q * drawsAt q random count at .groups ≤ length random

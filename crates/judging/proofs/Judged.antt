@@ -2,6 +2,7 @@
 --
 --   fitNumber-fits    0 of a list: each is below q
 --   fitNumber-refused any other number: some is not
+--   judged            the judge's number of octets is that of the elements' coefficients
 --   judged-fits       0 of octets: each is below q
 --   judged-refused    any other number: some is not
 -- Assumes nothing.
@@ -36,7 +37,7 @@ fitNumber-refused q xs h = go (coefficientsFit q xs) h
 module _ (p : Parameters) (set : Accepted p) (elements : ℕ) (octets : List ℕ) (exact : length octets ≡ elementsLength p elements) {len r : ℕ} (e : len ≡ qlen (p .q))
     (number : r ≡ fitNumber (p .q) (decoded len (length octets / len) octets))
   where
-    judged : r ≡ fitNumber (p .q) (decodedElements p elements octets)
+    pub judged : r ≡ fitNumber (p .q) (decodedElements p elements octets)
     unfolding decodedElements
     judged = rw (e, exact, elementsLength-count p set elements) at number
 

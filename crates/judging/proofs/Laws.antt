@@ -7,20 +7,19 @@
 --   places-..                where the octets of several coefficients lie
 --   large-..                 the mark that a loop over several keeps: 0 where all so far fit, otherwise 1
 --   bits-..                  the bits set in any of some words are below a power of two just where all of the words are
---   shifted                  that power, made by a shift
 -- Assumes nothing.
-use Prim.Native.Nat.{ℕ, suc, _+_, _-_, _*_, _%_, _^_, _≤_, _<_}
+use Prim.Native.Nat.{ℕ, suc, _+_, _-_, _*_, _^_, _≤_, _<_}
 use mathlib.Core.Path.{_≡_, refl, sym, ap, _∙_}
 use mathlib.Core.Bool.{Bool, true, false, _&&_, not}
 use mathlib.Core.List.{List, [], _∷_, _++_, append-assoc, append-nil}
-use native.Mathlib.Nat.{mul-le-mul-left, mul-le-mul-right, le-trans, add-zero, mod-eq-of-lt}
+use native.Mathlib.Nat.{mul-le-mul-left, mul-le-mul-right, le-trans, add-zero}
 use native.Mathlib.Numerals.{add-one}
 use native.Mathlib.Decide.{decLt}
 use native.Mathlib.Omega.{arith}
 use lib.Dec.{ltb}
 use lib.ListN.{length, getD, take, drop, length-append, length-drop, take-append-drop, List·getD-append}
 use lib.Seq.{take-suc, getD-drop, take-add, getD-append-seam}
-use lib.Pow.{pow-pos, pow-mono}
+use lib.Pow.{pow-pos}
 use lib.Bits.{bitOr, or-lt, or-add-and, and-le-r, or-comm}
 use borrow.Author.Tests.{lt-ltb, le-ltb}
 use Rattle.definitions.specs.Sequences.{every, tabulate}
@@ -267,10 +266,3 @@ module _ (q bits : ℕ) (xs : List ℕ) (e : ltb bits q ≡ coefficientsFit q xs
 
   pub bits-large : q ≤ bits → 8 ≡ fitNumber q xs
   bits-large h = sym (fitNumber-eight q xs (sym e ∙ le-ltb bits q h))
-
--- the limit, made by a shift
-pub shifted : (b : ℕ) → b ≤ 4 → 1 * 2 ^ b % 4294967296 ≡ 2 ^ b
-shifted b h =
-    let least : 2 ^ b ≤ 2 ^ 4 = pow-mono h in
-    let one : 1 * 2 ^ b ≡ 2 ^ b = omega arith in
-    rw one (mod-eq-of-lt (omega arith))

@@ -1,6 +1,6 @@
 -- What stands where after parts of the buffers were lent and given back.
 --
---   borrowed-length, tail-length   how many elements a lent part has
+--   tail-length      how many elements a tail has that is lent
 --   elements-most, drawn-room  a key's terms but the constant, and one element more, lie inside the work words
 --   others-drawn     a run of draws lent its words finds them in their place
 --   drawn-terms      the drawn words, and a cleared element behind them
@@ -21,17 +21,14 @@ use Rattle.definitions.specs.Octets.{encoded}
 use Rattle.definitions.specs.Draws.{candidates, draws}
 use Rattle.definitions.specs.Calls.{keyDraws}
 use Rattle.definitions.proofs.Sums.{length-tabulate, tabulate-cong}
-use Rattle.definitions.proofs.Parameters.{Accepted}
+use Rattle.definitions.proofs.Filling.{length-borrowed}
+use Rattle.definitions.proofs.Parameters.{Accepted, key-degree-most}
 use Rattle.definitions.proofs.Monomials.{monomialCount-pos}
 use Rattle.draws.specs.Runs.{said, drawnAnswer}
 use Rattle.draws.specs.declared.Run.{Run}
 use Rattle.ring.specs.Work.{part, written}
 use Rattle.values.proofs.Stages.{count-most}
-use Rattle.definitions.proofs.Parameters.{key-degree-most}
 use Rattle.key_generation.specs.Keys.{drawnWords}
-
-pub borrowed-length : (at n : ℕ) (l : List ℕ) → at + n ≤ length l → length (take (at + n - at) (drop at l)) ≡ n
-borrowed-length at n l h = simp (length-take, length-drop) (omega arith)
 
 pub tail-length : (at : ℕ) (l : List ℕ) → at ≤ length l → length (take (length l - at) (drop at l)) ≡ length l - at
 tail-length at l h = simp (length-take, length-drop) (omega arith)
@@ -62,7 +59,7 @@ pub others-drawn : (p : Parameters) (random work words : List ℕ) (run : Run) {
     ≡ drawnAnswer (keyDraws p random)
 unfolding keyDraws
 others-drawn p random work words run {count} ec es room as-long e =
-    let sized : length (take (2 * p .n + (count - 1) * p .n - 2 * p .n) (drop (2 * p .n) work)) ≡ (count - 1) * p .n = borrowed-length (2 * p .n) ((count - 1) * p .n) work room in
+    let sized : length (take (2 * p .n + (count - 1) * p .n - 2 * p .n) (drop (2 * p .n) work)) ≡ (count - 1) * p .n = length-borrowed (2 * p .n) ((count - 1) * p .n) work room in
     rw (← ec, drawn-words (p .n) (count - 1) work words room (as-long ∙ sized), ← es) (rw sized at e)
 
 pub drawn-length : (n elements : ℕ) (l : List ℕ) → 2 * n + elements * n ≤ length l → length (drawnWords n elements l) ≡ elements * n

@@ -4,7 +4,7 @@
 --   summed-written   what loading a key element and multiplying leave;  summed-zeros: what clearing leaves
 --   inputs-same      what was asked of the work words at entry still holds where the first six parts are as they were;  inputs-kept: after a turn
 -- Assumes nothing.
-use Prim.Native.Nat.{ℕ, zero, suc, _+_, _-_, _*_, _%_, _≤_, _<_}
+use Prim.Native.Nat.{ℕ, suc, _+_, _*_, _%_, _≤_, _<_}
 use native.Mathlib.Nat.{mod-add-mod, mod-eq-of-lt, mod-lt, mul-le-mul-right, mul-one, mul-zero, add-zero, add-comm, zero-mod}
 use native.Mathlib.Numerals.{add-one}
 use native.Mathlib.Omega.{arith}
@@ -14,7 +14,7 @@ use mathlib.Core.Bool.{Bool, true, false, cond, _&&_}
 use mathlib.Core.List.{List}
 use lib.Dec.{eqb}
 use borrow.Author.Tests.{eq-eqb}
-use lib.ListN.{length, getD, replicate, length-replicate, getD-replicate, length-take, length-drop, take, drop}
+use lib.ListN.{length, getD, replicate, length-replicate, getD-replicate}
 use Rattle.definitions.specs.Sequences.{sum, tabulate}
 use Rattle.definitions.specs.Parameters.{monomialCount}
 use Rattle.definitions.specs.Ring.{Element, InRing, conv}
@@ -27,18 +27,13 @@ use Rattle.monomials.specs.declared.Exponents.{Exponents}
 use Rattle.ring.specs.Work.{part, written}
 use Rattle.ring.proofs.Work.{part-written, getD-written-before, getD-written, getD-written-after, length-written, length-written-tabulate}
 use Rattle.values.specs.Folding.{flat}
+use Rattle.values.proofs.Parts.{part-room}
+use Rattle.values.proofs.Stages.{count-most}
 use Rattle.mask_products.specs.Products.{maskIn, pairTerm, Inputs, Summed}
 
 -- a list of at most degree 2 has at most six monomials
 pub count-six : (d : ℕ) → d ≤ 2 → monomialCount d ≤ 6
-unfolding monomialCount
-count-six zero l = omega arith
-count-six (suc zero) l = omega arith
-count-six (suc (suc zero)) l = omega arith
-count-six (suc (suc (suc d))) l = absurd (omega arith)
-
-pub part-room : (n j most : ℕ) → j < most → j * n + n ≤ most * n
-part-room n j most l = let h : suc j * n ≤ most * n = mul-le-mul-right n l in omega arith
+count-six d l = unfold monomialCount in count-most d 2 l
 
 -- a test as a number
 flag-cases : (t : Bool) → (_≡_ {A = ℕ} (cond t 1 0) 0) ⊎ (_≡_ {A = ℕ} (cond t 1 0) 1)
@@ -125,9 +120,6 @@ summed-written n q at old mid new f room h loaded added =
     }
 
 -- the words of a lent part
-pub length-borrowed : (at n : ℕ) (l : List ℕ) → at + n ≤ length l → length (take (at + n - at) (drop at l)) ≡ n
-length-borrowed at n l h = simp (length-take, length-drop) (omega arith)
-
 -- what clearing leaves
 pub summed-zeros : (n q : ℕ) (old new : List ℕ) → length old ≡ 8 * n → new ≡ written (7 * n) (replicate n 0) old → Summed n q (λ k. 0) old new
 summed-zeros n q old new room e =

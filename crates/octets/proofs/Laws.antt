@@ -1,7 +1,7 @@
 -- Why reading and writing octet by octet gives a number and its octets: each octet has 256 times the weight of the one before it.
 --
 --   numberOf-snoc, numberOf-take   the number of octets with one more behind them; of a part of a list, as a sum over its places
---   numberOf-four                  the number of the first of four octets; octets-weight: 256^len as a shift makes it
+--   numberOf-four                  the number of the first of four octets; octets-weight-pos: 256^len as a shift makes it is not 0
 --   pair-..                        the number of two words: its weight as a shift makes it, and that 64 bits hold it
 --   octetsOf-snoc, octetsOf-add    the octets of a number with one more, or with some more; octetsOf-low: what lies above does not show
 --   stored-..                      a list with some octets of a number stored from a place on; eight of them as four and four
@@ -10,7 +10,6 @@
 -- Assumes nothing.
 use Prim.Native.Nat.{ℕ, zero, suc, _+_, _-_, _*_, _/_, _%_, _^_, _≤_, _<_}
 use mathlib.Core.Path.{_≡_, refl, sym, ap, _∙_}
-use mathlib.Core.Bool.{not}
 use mathlib.Core.List.{List, [], _∷_, _++_, append-assoc, append-nil}
 use native.Mathlib.Nat.{add-zero, zero-add, add-suc, suc-add, mul-assoc, mul-suc, mul-le-mul, mul-le-mul-left, mul-le-mul-right, suc-mul, pow-suc, pow-succ', pow-le-pow-right, div-one, div-div-eq-div-mul, add-mul-mod-self-left, add-mul-div-left, div-eq-of-lt, mod-add-div, mod-lt, mod-eq-of-lt, le-of-eq}
 use native.Mathlib.Numerals.{add-one}
@@ -20,6 +19,7 @@ use lib.Seq.{take-all, take-take, take-suc, drop-cons, getD-drop, length-take-le
 use Rattle.definitions.specs.Sequences.{sum, joined}
 use Rattle.definitions.specs.Octets.{numberOf, octetsOf, encoded}
 use Rattle.definitions.proofs.Octets.{AllBelow, below-take, below-drop, length-octetsOf, numberOf-below, encoded-append}
+use Rattle.definitions.proofs.Powers.{shl-octets}
 
 -- ---- reading
 
@@ -82,28 +82,13 @@ weight-pos (suc len) =
     omega (arith, weight-pos len)
 
 -- the weight behind some octets, as a shift makes it
-pub octets-weight : (len : ℕ) → len ≤ 3 → 1 * 2 ^ (8 * len) % 4294967296 ≡ 256 ^ len
-octets-weight zero h = refl
-octets-weight (suc zero) h = refl
-octets-weight (suc (suc zero)) h = refl
-octets-weight (suc (suc (suc zero))) h = refl
-octets-weight (suc (suc (suc (suc n)))) h = let z : ⊥ = omega arith in absurd z
-
-pub pair-weight : (len : ℕ) → len ≤ 4 → 1 * 2 ^ (8 * len) % 18446744073709551616 ≡ 256 ^ len
-pair-weight zero h = refl
-pair-weight (suc zero) h = refl
-pair-weight (suc (suc zero)) h = refl
-pair-weight (suc (suc (suc zero))) h = refl
-pair-weight (suc (suc (suc (suc zero)))) h = refl
-pair-weight (suc (suc (suc (suc (suc n))))) h = let z : ⊥ = omega arith in absurd z
-
 -- the weight of the second of two words, and their number, in 64 bits
 module _ (len : ℕ) (few : len ≤ 4) where
   weight-most : 256 ^ len ≤ 4294967296
   weight-most = pow-le-pow-right {n = 256} (omega arith) few
 
   pub pair-weight-pos : 0 < 1 * 2 ^ (8 * len) % 18446744073709551616
-  pair-weight-pos = rw (pair-weight len few) (weight-pos len)
+  pair-weight-pos = rw (shl-octets len 64 (omega arith)) (weight-pos len)
 
   module _ (x y : ℕ) (word : y < 4294967296) where
     pair-below : x % 256 ^ len + 256 ^ len * y < 18446744073709551616
@@ -112,13 +97,13 @@ module _ (len : ℕ) (few : len ≤ 4) where
         omega (arith, mod-lt x (weight-pos len), mul-suc (256 ^ len) y, most)
 
     pub pair-fits : x % (1 * 2 ^ (8 * len) % 18446744073709551616) + 1 * 2 ^ (8 * len) % 18446744073709551616 * y < 18446744073709551616
-    pair-fits = rw (pair-weight len few) pair-below
+    pair-fits = rw (shl-octets len 64 (omega arith)) pair-below
 
     pub pair-second-fits : 1 * 2 ^ (8 * len) % 18446744073709551616 * y < 18446744073709551616
-    pair-second-fits = rw (pair-weight len few) (omega (arith, pair-below))
+    pair-second-fits = rw (shl-octets len 64 (omega arith)) (omega (arith, pair-below))
 
 pub octets-weight-pos : (len : ℕ) → len ≤ 3 → 0 < 1 * 2 ^ (8 * len) % 4294967296
-octets-weight-pos len h = rw (octets-weight len h) (weight-pos len)
+octets-weight-pos len h = rw (shl-octets len 32 (omega arith)) (weight-pos len)
 
 -- ---- writing
 

@@ -1,8 +1,8 @@
 -- What stands where after a list was written over the work words: the list inside, the old words before and after it.
 -- A loop that writes one word a turn goes by `Writing`.
 -- Assumes nothing.
-use Prim.Native.Nat.{ℕ, suc, _+_, _-_, _≤_, _<_, zero-le}
-use native.Mathlib.Nat.{le-of-lt, add-zero, zero-add}
+use Prim.Native.Nat.{ℕ, suc, _+_, _-_, _≤_, _<_}
+use native.Mathlib.Nat.{le-of-lt, add-zero}
 use native.Mathlib.Numerals.{add-one}
 use native.Mathlib.Omega.{arith}
 use mathlib.Core.Path.{_≡_, refl, sym, _∙_, ap, subst}
@@ -85,10 +85,6 @@ length-written-tabulate at k f old h = length-written at (tabulate k f) old (sub
 pub part-written : (at n : ℕ) (f : ℕ → ℕ) (old : List ℕ) {k : ℕ} → at ≤ length old → k < n → part (written at (tabulate n f) old) at k ≡ f k
 part-written at n f old {k} h l =
     getD-written at (tabulate n f) old h (subst (λ (m : ℕ). k < m) (sym (length-tabulate n f)) l) ∙ getD-tabulate n f 0 l
-
-pub getD-written-front : (n : ℕ) (f : ℕ → ℕ) (old : List ℕ) {k : ℕ} → k < n → getD (written 0 (tabulate n f) old) k 0 ≡ f k
-getD-written-front n f old {k} l =
-    ap (λ (j : ℕ). getD (written 0 (tabulate n f) old) j 0) (sym (zero-add k)) ∙ part-written 0 n f old zero-le l
 
 -- a part that was not written
 pub part-apart : (at from j n : ℕ) (f : ℕ → ℕ) (old : List ℕ) {k : ℕ} → j ≤ n → at + n ≤ length old → Apart at from n → k < n → part (written at (tabulate j f) old) from k ≡ part old from k

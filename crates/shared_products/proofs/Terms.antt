@@ -21,9 +21,10 @@ use Rattle.definitions.proofs.Congruence.{cong-refl, cong-mod, cong-add, cong-m
 use Rattle.definitions.proofs.Ring.{conv-cong}
 use Rattle.ring.specs.Work.{part, written, productAdded}
 use Rattle.values.specs.Folding.{flat}
+use Rattle.values.proofs.Parts.{part-room}
 use Rattle.mask_products.specs.Products.{maskIn, pairTerm, Inputs, Summed}
 use Rattle.mask_products.proofs.Sums as mask
-use Rattle.mask_products.proofs.Sums.{count-six, part-room, sameMonomial-cases, sum-next, summed-none, summed-same, summed-then, mask-kept, pairTerm-kept, summed-product}
+use Rattle.mask_products.proofs.Sums.{count-six, sameMonomial-cases, sum-next, summed-none, summed-same, summed-then, mask-kept, pairTerm-kept, summed-product}
 use Rattle.shared_products.specs.Sharing.{Prepared, SharedInputs, Pair, bothTerms, rowOfPairs}
 use Rattle.shared_products.proofs.Pairs.{sum-square, sameMonomial-comm, sumsLess, cong-pair}
 use Rattle.shared_products.proofs.Turns.{summed-cong}

@@ -4,11 +4,11 @@
 --   Halfway          the state after so many terms
 --   halfway-..       none yet; one more; all, which is a folded degree
 -- Assumes nothing.
-use Prim.Native.Nat.{ℕ, suc, _+_, _*_, _%_, _≤_, _<_}
+use Prim.Native.Nat.{ℕ, _+_, _*_, _%_, _≤_, _<_}
 use native.Mathlib.Nat.{mul-le-mul-right, add-zero}
 use native.Mathlib.Decide.{ℕ-discrete}
 use native.Mathlib.Omega.{arith}
-use mathlib.Core.Path.{_≡_, refl, sym, _∙_, ap, ap₂, subst}
+use mathlib.Core.Path.{_≡_, refl, sym, _∙_, ap, subst}
 use mathlib.Core.Bool.{cond}
 use mathlib.Core.Logic.{inl, inr}
 use mathlib.Core.List.{List}
@@ -20,7 +20,7 @@ use Rattle.definitions.specs.Monomials.{Polynomial}
 use Rattle.definitions.proofs.Ring.{conv-cong}
 use Rattle.ring.specs.Work.{part}
 use Rattle.values.specs.Folding.{slot, Placed, FoldedDegree}
-use Rattle.values.proofs.Parts.{slot-room}
+use Rattle.values.proofs.Parts.{part-room}
 
 abbrev pub termAt : ℕ → ℕ → ℕ → Polynomial → List ℕ → ℕ → Element
 termAt n q k rest old i m =
@@ -37,7 +37,7 @@ halfway-none n q k rest old =
     record { folded = λ i l m s. absurd (omega arith); ahead = λ i h l m s. refl; secret = λ i l. refl; as-long = refl }
 
 slots-apart : (n i j m : ℕ) → i < j → m < n → (2 + i) * n + m < (2 + j) * n
-slots-apart n i j m l s = let h : (2 + i) * n + n ≤ (2 + j) * n = slot-room n (2 + i) (2 + j) (omega arith) in omega arith
+slots-apart n i j m l s = let h : (2 + i) * n + n ≤ (2 + j) * n = part-room n (2 + i) (2 + j) (omega arith) in omega arith
 
 module _ {n q k j : ℕ} {rest : Polynomial} {old now : List ℕ} (h : Halfway n q k j rest old now) where
   pub halfway-ring : (r i : ℕ) → j ≤ i → i ≤ k → InRing r n (slot n old i) → InRing r n (slot n now i)
@@ -57,7 +57,7 @@ module _ {n q k j : ℕ} {rest : Polynomial} {old now : List ℕ} (h : Halfway n
                   p .kept ((2 + i) * n + m) (inside i m s (omega arith)) (inl (slots-apart n i j m before s)) ∙ h .folded i before m s
             ];
         ahead = λ i lo hi m s.
-            let room : (2 + j) * n + n ≤ (2 + i) * n = slot-room n (2 + j) (2 + i) (omega arith) in
+            let room : (2 + j) * n + n ≤ (2 + i) * n = part-room n (2 + j) (2 + i) (omega arith) in
             p .kept ((2 + i) * n + m) (inside i m s (omega arith)) (inr (omega arith)) ∙ h .ahead i (omega arith) hi m s;
         secret = λ i l.
             let low : 2 * n ≤ (2 + j) * n = mul-le-mul-right n (omega arith) in

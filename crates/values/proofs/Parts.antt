@@ -3,12 +3,12 @@
 --   putMid-written       a part lent and given back is a list written over the words
 --   coefficientAt-drop   the coefficients from a place on
 --   decoded-element      an element of the octets, decoded
---   slot-room            a slot lies inside the work words, before the spare part where it is one of the first seven
+--   part-room            a part lies inside the work words, before the spare part where it is one of the first seven
 -- Assumes nothing.
 use Prim.Native.Nat.{ℕ, suc, _+_, _-_, _*_, _≤_, _<_}
-use native.Mathlib.Nat.{add-sub-cancel-left, mul-le-mul-right}
+use native.Mathlib.Nat.{mul-le-mul-right}
 use native.Mathlib.Omega.{arith}
-use mathlib.Core.Path.{_≡_, refl, sym, _∙_, ap}
+use mathlib.Core.Path.{_≡_, sym, _∙_, ap}
 use mathlib.Core.List.{List, _++_}
 use lib.ListN.{length, take, drop, length-take, length-drop, take-append-drop}
 use lib.Seq.{drop-drop}
@@ -43,5 +43,5 @@ decoded-element qlen n element octets room =
     ∙ ap (λ (s : List ℕ). coefficientAt qlen s k) (take-append-drop (n * qlen) from)
     ∙ coefficientAt-drop qlen octets (element * n) k)
 
-pub slot-room : (n s most : ℕ) → s < most → s * n + n ≤ most * n
-slot-room n s most l = let h : suc s * n ≤ most * n = mul-le-mul-right n l in omega arith
+pub part-room : (n j most : ℕ) → j < most → j * n + n ≤ most * n
+part-room n j most l = let h : suc j * n ≤ most * n = mul-le-mul-right n l in omega arith

@@ -8,9 +8,9 @@ use Rattle.definitions.specs.Parameters.{smallBits}
 use Rattle.definitions.specs.Octets.{unpacked}
 use Rattle.definitions.proofs.Parameters.{accepted-set}
 use Rattle.definitions.proofs.Packing.{length-unpacked}
+use Rattle.definitions.proofs.Filling.{length-borrowed}
 use Rattle.parameters.specs.Answers.{setFrom}
 use Rattle.parameters.proofs.Bounds.{smallBits-within}
-use Rattle.mask_products.proofs.Sums.{length-borrowed}
 use Rattle.ciphertext_elements.proofs.Elements.{work-words, borrowed-filled, degree-most, count-most, modulus-half, message-scaled, filled-requires, summed-scaled, summed-message, summed-no-message}
 use Rattle.ciphertext_elements.proofs.add_message.Statement.{statement}
 use Rattle.ciphertext_elements.proofs.add_message.Tie as tie

@@ -11,9 +11,9 @@ use Rattle.definitions.specs.Sequences.{tabulate}
 use Rattle.definitions.specs.Octets.{encoded}
 use Rattle.definitions.proofs.Sums.{length-tabulate}
 use Rattle.definitions.proofs.Octets.{length-encoded}
+use Rattle.definitions.proofs.Filling.{length-borrowed}
 use Rattle.ring.specs.Work.{part, written}
 use Rattle.values.proofs.Parts.{putMid-written}
-use Rattle.mask_products.proofs.Sums.{length-borrowed}
 use Rattle.ciphertext_elements.proofs.Ciphertext.{borrowed-element}
 use Rattle.ciphertext_elements.proofs.encode_element.Statement.{statement}
 use Rattle.ciphertext_elements.proofs.encode_element.Tie as tie

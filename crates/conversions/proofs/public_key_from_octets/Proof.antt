@@ -4,10 +4,10 @@ use mathlib.Core.Path.{_≡_, sym, _∙_}
 use native.Mathlib.Omega.{arith}
 use Rattle.definitions.specs.Refusals.{firstRefusal}
 use Rattle.definitions.specs.Parameters.{setTests}
+use Rattle.definitions.proofs.Parameters.{Accepted, accepted-set, key-degree-most}
 use Rattle.parameters.specs.Answers.{setFrom}
 use Rattle.lengths.proofs.Bounds.{monomialCount-le}
 use Rattle.definitions.proofs.Conversions.{from-tested, exit-set}
-use Rattle.conversions.proofs.Sets.{key-degree-most}
 use borrow.Author.Needs.{needs}
 use Rattle.conversions.proofs.public_key_from_octets.Statement.{statement}
 use Rattle.conversions.proofs.public_key_from_octets.Tie as tie
@@ -21,14 +21,17 @@ returns c = exit-set (from-tested _ _ _ _) _ (c .before .refusal .result) (c .if
 accepted : (c : tie.Else1) → firstRefusal (setTests (setFrom (c .before .before .before .before .args .p))) ≡ 0
 accepted c = sym (c .before .refusal .ensures) ∙ c .if1 .left
 
+set : (c : tie.Else1) → Accepted (setFrom (c .before .before .before .before .args .p))
+set c = accepted-set _ (accepted c)
+
 monomial-count-requires : tie.Need-monomial-count-requires
 monomial-count-requires c κs =
-    let x = key-degree-most (setFrom (c .before .before .before .before .args .p)) (accepted c) in
+    let x = key-degree-most _ (set c) in
     omega arith
 
 elements-from-octets-requires : tie.Need-elements-from-octets-requires
 elements-from-octets-requires c κs =
-    let x = key-degree-most (setFrom (c .before .before .before .before .before .before .args .p)) (accepted (c .before .before)) in
+    let x = key-degree-most _ (set (c .before .before)) in
     (accepted (c .before .before), rw (c .before .monomial-count .ensures) (monomialCount-le _ (omega arith)))
 
 same-length : tie.Need-same-length

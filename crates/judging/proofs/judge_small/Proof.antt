@@ -6,9 +6,10 @@ use mathlib.Core.Path.{_≡_, sym, ap, _∙_}
 use native.Mathlib.Omega.{arith}
 use borrow.Author.Needs.{needs}
 use lib.ListN.{length, take, drop}
+use Rattle.definitions.proofs.Powers.{shl-one}
 use Rattle.judging.specs.Reading.{readingsNumber, fitNumber}
 use Rattle.judging.proofs.Judged.{fitNumber-fits, fitNumber-refused}
-use Rattle.judging.proofs.Laws.{fitNumber-nil, fitNumber-take-more, fitNumber-take-part, shifted}
+use Rattle.judging.proofs.Laws.{fitNumber-nil, fitNumber-take-more, fitNumber-take-part}
 use Rattle.judging.proofs.judge_small.Statement.{statement}
 use Rattle.judging.proofs.judge_small.Tie as tie
 
@@ -56,12 +57,12 @@ shl-judge-words-from : tie.Need-shl-judge-words-from Inv-loop μ-loop
 shl-judge-words-from c = omega arith
 
 judge-words-from-requires : tie.Need-judge-words-from-requires Inv-loop μ-loop
-judge-words-from-requires c κs = rw (shifted (c .before .before .before .args .b) (c .before .before .before .pre)) (c .before .loop .inv)
+judge-words-from-requires c κs = rw (shl-one (c .before .before .before .args .b) 32 (omega (arith, c .before .before .before .pre))) (c .before .loop .inv)
 
 returns-2 : tie.Need-returns-2 Inv-loop μ-loop
 returns-2 c =
     let s = c .before .before .before .before in
-    rw (shifted (s .args .b) (s .pre)) at (c .judge-words-from .ensures)
+    rw (shl-one (s .args .b) 32 (omega (arith, s .pre))) at (c .judge-words-from .ensures)
 
 pub judge-small-spec : {M : Type 1} → statement M
 judge-small-spec =

@@ -6,7 +6,8 @@ use native.Mathlib.Omega.{arith}
 use lib.Dec.{ltb}
 use lib.ListN.{take, drop}
 use Rattle.definitions.specs.Octets.{coefficientsFit}
-use Rattle.judging.proofs.Laws.{bits-none, bits-step, bits-below, bits-large, shifted}
+use Rattle.definitions.proofs.Powers.{shl-one}
+use Rattle.judging.proofs.Laws.{bits-none, bits-step, bits-below, bits-large}
 use Rattle.judging.proofs.several_small.Statement.{statement}
 use Rattle.judging.proofs.several_small.Tie as tie
 
@@ -47,13 +48,13 @@ returns : tie.Need-returns Inv-loop μ-loop
 returns c =
     let s = c .before .before .before in
     let end : c .before .before .loop .k ≡ 128 = omega arith in
-    bits-below (2 ^ s .args .b) _ _ (rw end at (c .before .before .loop .inv .1)) (rw (shifted (s .args .b) (s .pre .0)) at (c .if1 .taken))
+    bits-below (2 ^ s .args .b) _ _ (rw end at (c .before .before .loop .inv .1)) (rw (shl-one (s .args .b) 32 (omega (arith, s .pre .0))) at (c .if1 .taken))
 
 returns-2 : tie.Need-returns-2 Inv-loop μ-loop
 returns-2 c =
     let s = c .before .before .before in
     let end : c .before .before .loop .k ≡ 128 = omega arith in
-    bits-large (2 ^ s .args .b) _ _ (rw end at (c .before .before .loop .inv .1)) (rw (shifted (s .args .b) (s .pre .0)) at (c .if1 .left))
+    bits-large (2 ^ s .args .b) _ _ (rw end at (c .before .before .loop .inv .1)) (rw (shl-one (s .args .b) 32 (omega (arith, s .pre .0))) at (c .if1 .left))
 
 pub several-small-spec : {M : Type 1} → statement M
 several-small-spec =

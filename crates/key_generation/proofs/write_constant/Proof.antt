@@ -7,9 +7,10 @@ use mathlib.Core.Path.{_≡_, sym, ap, _∙_}
 use lib.ListN.{length}
 use borrow.Author.Needs.{needs}
 use Rattle.definitions.specs.Monomials.{value}
+use Rattle.definitions.proofs.Filling.{length-borrowed}
 use Rattle.ring.specs.Work.{part}
 use Rattle.values.specs.Folding.{flat}
-use Rattle.key_generation.proofs.Parts.{borrowed-length, tail-length, constant-room, constant-placed}
+use Rattle.key_generation.proofs.Parts.{tail-length, constant-room, constant-placed}
 use Rattle.key_generation.proofs.write_constant.Statement.{statement}
 use Rattle.key_generation.proofs.write_constant.Tie as tie
 
@@ -69,7 +70,7 @@ encode-requires c κs = let s = c .before .before .before .before .before .befor
       s .pre .0 .0 .octets-most,
       tail-length at (s .args .public .now) (omega arith)
           ∙ octets
-          ∙ ap (λ (m : ℕ). m * s .args .qlen) (sym (borrowed-length (2 * s .args .n) (s .args .n) _ (omega (arith, inside (c .before .before .before .before .before .before .before .before .before), c .before .before .before .before .before .negate .kept .0)))),
+          ∙ ap (λ (m : ℕ). m * s .args .qlen) (sym (length-borrowed (2 * s .args .n) (s .args .n) _ (omega (arith, inside (c .before .before .before .before .before .before .before .before .before), c .before .before .before .before .before .negate .kept .0)))),
     )
 
 same-length : tie.Need-same-length

@@ -8,8 +8,9 @@ use lib.ListN.{length, drop}
 use lib.Seq.{length-take-le, length-front}
 use borrow.Author.Needs.{needs}
 use Rattle.definitions.specs.Parameters.{secretLength, workLength}
+use Rattle.definitions.proofs.Filling.{length-borrowed}
 use Rattle.parameters.specs.Answers.{setFrom}
-use Rattle.key_generation.proofs.Parts.{borrowed-length, tail-length}
+use Rattle.key_generation.proofs.Parts.{tail-length}
 use Rattle.key_generation.proofs.Halves.{secret-written}
 use Rattle.key_generation.proofs.write_secret.Statement.{statement}
 use Rattle.key_generation.proofs.write_secret.Tie as tie
@@ -86,7 +87,7 @@ draw-half-requires-2 : tie.Need-draw-half-requires-2
 draw-half-requires-2 c κs = let a = c .before .before .before .before .before .before .before .before .before .before .before .before .before .before .args in
     let one : ℕ = c .before .before .before .before .before .before .before .before .before .small-length .result in (
       omega (arith, random (c .before .before .before .before .before .before .before .before .before), c .before .before .before .before .before .before .before .before .before .small-length .ensures),
-      borrowed-length (a .p .n) (a .p .n) (c .before .before .before .before .before .before .draw-half .last .1 .1 .1 .0 ++ drop (a .p .n) (a .work .now)) (omega (arith, words-kept (c .before .before .before .before .before .before), words (c .before .before .before .before .before .before .before .before .before .before .before .before .before .before))),
+      length-borrowed (a .p .n) (a .p .n) (c .before .before .before .before .before .before .draw-half .last .1 .1 .1 .0 ++ drop (a .p .n) (a .work .now)) (omega (arith, words-kept (c .before .before .before .before .before .before), words (c .before .before .before .before .before .before .before .before .before .before .before .before .before .before))),
       tail-length one (c .before .before .before .before .before .before .draw-half .last .1 .1 .1 .1 .0 ++ drop one (a .secret .now)) (omega (arith, octets-kept (c .before .before .before .before .before .before), octets (c .before .before .before .before .before .before .before .before .before)))
           ∙ omega (arith, octets-kept (c .before .before .before .before .before .before), octets (c .before .before .before .before .before .before .before .before .before), c .before .before .before .before .before .before .before .before .before .small-length .ensures),
     )

@@ -7,7 +7,8 @@ use lib.ListN.{length, replicate}
 use borrow.Rule.Slice.PartMut.{same-len-mid}
 use borrow.Author.Needs.{needs}
 use Rattle.definitions.specs.Octets.{encoded}
-use Rattle.key_generation.proofs.Parts.{borrowed-length, drawn-room, drawn-terms, drawn-terms-length}
+use Rattle.definitions.proofs.Filling.{length-borrowed}
+use Rattle.key_generation.proofs.Parts.{drawn-room, drawn-terms, drawn-terms-length}
 use Rattle.key_generation.proofs.write_terms.Statement.{statement}
 use Rattle.key_generation.proofs.write_terms.Tie as tie
 
@@ -18,7 +19,7 @@ inside c = omega (arith, drawn-room (c .args .n) (c .args .elements) (c .pre .1)
 zeros : (c : tie.After-clear) → c .clear .last .0 ≡ replicate (c .before .before .before .before .args .n) 0
 zeros c =
     let a = c .before .before .before .before .args in
-    c .clear .ensures ∙ ap (λ (m : ℕ). replicate m 0) (borrowed-length (2 * a .n + a .elements * a .n) (a .n) (a .work .now) (inside (c .before .before .before .before)))
+    c .clear .ensures ∙ ap (λ (m : ℕ). replicate m 0) (length-borrowed (2 * a .n + a .elements * a .n) (a .n) (a .work .now) (inside (c .before .before .before .before)))
 
 mul-at : tie.Need-mul-at
 mul-at c = search needs

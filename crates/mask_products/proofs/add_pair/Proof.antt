@@ -6,7 +6,8 @@ use mathlib.Core.Path.{_≡_, sym, _∙_}
 use borrow.Author.Needs.{needs}
 use lib.ListN.{length}
 use Rattle.values.specs.Folding.{flat}
-use Rattle.mask_products.proofs.Sums.{count-six, part-room, key-room, key-loaded, mask-loaded, summed-written, summed-no-pair, summed-pair}
+use Rattle.values.proofs.Parts.{part-room}
+use Rattle.mask_products.proofs.Sums.{count-six, key-room, key-loaded, mask-loaded, summed-written, summed-no-pair, summed-pair}
 use Rattle.mask_products.proofs.add_pair.Statement.{statement}
 use Rattle.mask_products.proofs.add_pair.Tie as tie
 

@@ -1,13 +1,13 @@
 -- `octets::pair` is right because the second word has the weight that follows the first word's octets, and 64 bits hold both.
 -- Assumes nothing.
 use Prim.Native.Nat.{_+_, _<_}
-use mathlib.Core.Path.{_≡_}
 use native.Mathlib.Nat.{lt-of-lt-of-le}
 use native.Mathlib.Omega.{arith}
 use lib.Dec.{lit≤}
 use borrow.Author.Needs.{needs}
 use lib.ListN.{getD}
-use Rattle.octets.proofs.Laws.{pair-weight, pair-weight-pos, pair-fits, pair-second-fits}
+use Rattle.definitions.proofs.Powers.{shl-octets}
+use Rattle.octets.proofs.Laws.{pair-weight-pos, pair-fits, pair-second-fits}
 use Rattle.octets.proofs.pair.Statement.{statement}
 use Rattle.octets.proofs.pair.Tie as tie
 
@@ -55,7 +55,7 @@ add-result-2 c =
     record { fits = pair-fits (a .qlen) (omega arith) (getD (a .words .now) (a .m) 0) _ (second c) }
 
 returns : tie.Need-returns
-returns c = rw (pair-weight (c .before .before .args .qlen) (omega arith))
+returns c = rw (shl-octets (c .before .before .args .qlen) 64 (omega arith))
 
 pub pair-spec : {M : Type 1} → statement M
 pair-spec =

@@ -1,11 +1,10 @@
 -- `octets::wide_number` is right because the first octets of four have the low bits of their number.
 -- Assumes nothing.
-use Prim.Native.Nat.{_^_}
-use mathlib.Core.Path.{_≡_, sym, _∙_}
+use mathlib.Core.Path.{_≡_, sym}
 use native.Mathlib.Omega.{arith}
 use borrow.Author.Needs.{needs}
-use Rattle.definitions.proofs.Octets.{AllBelow}
-use Rattle.octets.proofs.Laws.{numberOf-four, octets-weight, octets-weight-pos}
+use Rattle.definitions.proofs.Powers.{shl-octets}
+use Rattle.octets.proofs.Laws.{numberOf-four, octets-weight-pos}
 use Rattle.octets.proofs.wide_number.Statement.{statement}
 use Rattle.octets.proofs.wide_number.Tie as tie
 
@@ -33,7 +32,7 @@ rem-result c = octets-weight-pos (c .before .before .before .args .len) (omega a
 returns-2 : tie.Need-returns-2
 returns-2 c =
     let a = c .before .before .before .args in
-    rw (octets-weight (a .len) (omega arith), c .before .four .ensures)
+    rw (shl-octets (a .len) 32 (omega arith), c .before .four .ensures)
     (sym (numberOf-four (a .len) (a .at) (a .octets .now) (λ i h. c .before .before .shared-slice-known .given i .fits) (omega arith) (omega arith)))
 
 pub wide-number-spec : {M : Type 1} → statement M

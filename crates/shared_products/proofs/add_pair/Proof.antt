@@ -5,7 +5,8 @@ use native.Mathlib.Omega.{arith}
 use mathlib.Core.Path.{sym, _∙_}
 use borrow.Author.Needs.{needs}
 use Rattle.definitions.specs.Parameters.{monomialCount}
-use Rattle.mask_products.proofs.Sums.{part-room, summed-inRing}
+use Rattle.values.proofs.Parts.{part-room}
+use Rattle.mask_products.proofs.Sums.{summed-inRing}
 use Rattle.shared_products.specs.Sharing.{keyIn}
 use Rattle.shared_products.proofs.Turns.{summed-written}
 use Rattle.shared_products.proofs.Terms.{place-few, diagonal-room, diagonal-inRing, inputs-pair, summed-no-pair, summed-both}

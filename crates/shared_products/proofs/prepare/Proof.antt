@@ -12,8 +12,9 @@ use Rattle.definitions.proofs.Sums.{tabulate-cong}
 use Rattle.definitions.proofs.Ring.{conv-cong}
 use Rattle.ring.specs.Work.{written}
 use Rattle.values.specs.Folding.{flat}
+use Rattle.values.proofs.Parts.{part-room}
 use Rattle.mask_products.specs.Products.{maskIn}
-use Rattle.mask_products.proofs.Sums.{count-six, part-room, inputs-same}
+use Rattle.mask_products.proofs.Sums.{count-six, inputs-same}
 use Rattle.shared_products.specs.Sharing.{Holds, Kept}
 use Rattle.shared_products.proofs.Turns.{holds-more}
 use Rattle.shared_products.proofs.prepare.Statement.{statement}

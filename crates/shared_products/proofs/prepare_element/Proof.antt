@@ -9,7 +9,8 @@ use lib.ListN.{length}
 use Rattle.definitions.proofs.Sums.{tabulate-cong}
 use Rattle.ring.specs.Work.{written}
 use Rattle.values.specs.Folding.{flat}
-use Rattle.mask_products.proofs.Sums.{count-six, part-room, inputs-kept, key-room, key-loaded, mask-loaded}
+use Rattle.values.proofs.Parts.{part-room}
+use Rattle.mask_products.proofs.Sums.{count-six, inputs-kept, key-room, key-loaded, mask-loaded}
 use Rattle.shared_products.proofs.Turns.{wrote}
 use Rattle.shared_products.proofs.Terms.{element-product}
 use Rattle.shared_products.proofs.prepare_element.Statement.{statement}

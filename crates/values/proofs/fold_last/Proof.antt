@@ -2,14 +2,14 @@
 -- Assumes nothing.
 use Prim.Native.Nat.{ℕ, _+_, _*_, _%_, _≤_, _<_}
 use native.Mathlib.Omega.{arith}
-use mathlib.Core.Path.{_≡_, sym, _∙_, subst}
+use mathlib.Core.Path.{_≡_, _∙_, subst}
 use mathlib.Core.Logic.{inl}
 use borrow.Author.Needs.{needs}
 use lib.ListN.{length}
 use Rattle.definitions.specs.Ring.{InRing, conv}
 use Rattle.ring.specs.Work.{part}
 use Rattle.values.specs.Folding.{flat, slot}
-use Rattle.values.proofs.Parts.{slot-room}
+use Rattle.values.proofs.Parts.{part-room}
 use Rattle.values.proofs.Turns.{Spare, spare-load, spare-product, spare-kept, spare-same, inRing-kept, two-products}
 use Rattle.values.proofs.fold_last.Statement.{statement}
 use Rattle.values.proofs.fold_last.Tie as tie
@@ -25,7 +25,7 @@ add-at c = omega arith
 
 -- both terms' parts lie before the spare one
 room : (n j : ℕ) → j < 4 → (2 + j) * n + n + n ≤ 7 * n
-room n j l = let h : (3 + j) * n + n ≤ 7 * n = slot-room n (3 + j) 7 (omega arith) in omega arith
+room n j l = let h : (3 + j) * n + n ≤ 7 * n = part-room n (3 + j) 7 (omega arith) in omega arith
 
 next : (n j : ℕ) → (2 + (j + 1)) * n ≡ (2 + j) * n + n
 next n j = omega arith

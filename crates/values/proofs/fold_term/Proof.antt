@@ -2,14 +2,14 @@
 -- Assumes nothing.
 use Prim.Native.Nat.{ℕ, _+_, _*_, _%_, _≤_, _<_}
 use native.Mathlib.Omega.{arith}
-use mathlib.Core.Path.{_≡_, sym, _∙_}
+use mathlib.Core.Path.{_≡_, _∙_}
 use mathlib.Core.Logic.{inl}
 use borrow.Author.Needs.{needs}
 use lib.ListN.{length}
 use Rattle.definitions.specs.Ring.{conv}
 use Rattle.ring.specs.Work.{part}
 use Rattle.values.specs.Folding.{flat, slot}
-use Rattle.values.proofs.Parts.{slot-room}
+use Rattle.values.proofs.Parts.{part-room}
 use Rattle.values.proofs.Turns.{Spare, spare-load, spare-product, spare-kept, inRing-kept}
 use Rattle.values.proofs.fold_term.Statement.{statement}
 use Rattle.values.proofs.fold_term.Tie as tie
@@ -25,7 +25,7 @@ add-at c = omega arith
 
 -- the term's part lies before the spare one
 room : (n j : ℕ) → j < 5 → (2 + j) * n + n ≤ 7 * n
-room n j l = slot-room n (2 + j) 7 (omega arith)
+room n j l = part-room n (2 + j) 7 (omega arith)
 
 mul-at : tie.Need-mul-at
 mul-at c = let a = c .before .before .before .before .before .before .args in omega (arith, room (a .n) (a .j) (omega arith))

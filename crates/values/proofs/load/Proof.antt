@@ -1,15 +1,15 @@
 -- `load` decodes the element's octets into a part of the work words.
 -- Assumes nothing.
 use Prim.Native.Nat.{ℕ, _+_, _-_, _*_, _≤_}
-use native.Mathlib.Nat.{mul-le-mul, mul-le-mul-right, le-of-lt}
+use native.Mathlib.Nat.{mul-le-mul}
 use native.Mathlib.Omega.{arith}
-use mathlib.Core.Path.{_≡_, refl, sym, ap, ap₂, _∙_}
+use mathlib.Core.Path.{_≡_, sym, ap, ap₂, _∙_}
 use mathlib.Core.List.{List}
-use lib.ListN.{length, take, drop, length-take, length-drop}
+use lib.ListN.{length, take, drop}
 use borrow.Author.Needs.{needs}
-use borrow.Rule.Slice.PartMut.{putMid}
 use Rattle.definitions.specs.Octets.{decoded}
 use Rattle.definitions.proofs.Octets.{length-decoded}
+use Rattle.definitions.proofs.Filling.{length-borrowed}
 use Rattle.ring.specs.Work.{written}
 use Rattle.values.proofs.Parts.{putMid-written, decoded-element}
 use Rattle.values.proofs.load.Statement.{statement}
@@ -54,22 +54,14 @@ part-decode-start-2 c = search needs
 part-decode-end-2 : tie.Need-part-decode-end-2
 part-decode-end-2 c = search needs
 
--- the lent part has n words
-words : (at n : ℕ) (l : List ℕ) → at + n ≤ length l → length (take (at + n - at) (drop at l)) ≡ n
-words at n l e = simp (length-take, length-drop) (omega arith)
-
--- and the lent octets are those of one element
-octets : (from m : ℕ) (s : List ℕ) → from + m ≤ length s → length (take (from + m - from) (drop from s)) ≡ m
-octets from m s h = simp (length-take, length-drop) (omega arith)
-
 decode-requires : tie.Need-decode-requires
 decode-requires c κs =
     let a = c .before .before .before .before .args in
     let p = c .before .before .before .before .pre in (
       omega arith,
       omega arith,
-      octets (a .element * a .n * a .qlen) (a .n * a .qlen) (a .octets .now) (p .2)
-          ∙ ap (λ (m : ℕ). m * a .qlen) (sym (words (a .at) (a .n) (a .work .now) (p .3))),
+      length-borrowed (a .element * a .n * a .qlen) (a .n * a .qlen) (a .octets .now) (p .2)
+          ∙ ap (λ (m : ℕ). m * a .qlen) (sym (length-borrowed (a .at) (a .n) (a .work .now) (p .3))),
     )
 
 same-length : tie.Need-same-length
@@ -82,7 +74,7 @@ returns c =
     let e : a .element * a .n * a .qlen + a .n * a .qlen - a .element * a .n * a .qlen ≡ a .n * a .qlen = omega arith in
     let given : c .before .before .decode .last .1 .1 .0 ≡ decoded (a .qlen) (a .n) (take (a .n * a .qlen) (drop (a .element * a .n * a .qlen) (a .octets .now))) =
     c .before .before .decode .ensures
-    ∙ ap₂ (λ (m k : ℕ). decoded (a .qlen) m (take k (drop (a .element * a .n * a .qlen) (a .octets .now)))) (words (a .at) (a .n) (a .work .now) (p .3)) e in
+    ∙ ap₂ (λ (m k : ℕ). decoded (a .qlen) m (take k (drop (a .element * a .n * a .qlen) (a .octets .now)))) (length-borrowed (a .at) (a .n) (a .work .now) (p .3)) e in
     putMid-written (a .at) (a .n) (a .work .now) _ (ap length given ∙ length-decoded _ _ _)
     ∙ ap (λ (l : List ℕ). written (a .at) l (a .work .now)) (given ∙ decoded-element (a .qlen) (a .n) (a .element) (a .octets .now) (p .2))
 

@@ -1,14 +1,16 @@
 -- `load_highest` decodes the first (d + 1) × n coefficients into the parts from the third on.
 -- Assumes nothing.
-use Prim.Native.Nat.{ℕ, _+_, _-_, _*_, _≤_}
+use Prim.Native.Nat.{ℕ, _+_, _*_, _≤_}
 use native.Mathlib.Nat.{mul-le-mul-right, le-of-eq}
 use native.Mathlib.Omega.{arith}
 use mathlib.Core.Path.{_≡_, sym, ap, _∙_}
 use mathlib.Core.List.{List}
-use lib.ListN.{length, take, drop, length-take, length-drop, take-append-drop}
+use lib.ListN.{length, take, drop, length-take, take-append-drop}
+use lib.Seq.{length-take-le}
 use borrow.Author.Needs.{needs}
 use Rattle.definitions.specs.Octets.{decoded}
 use Rattle.definitions.proofs.Octets.{length-decoded, decoded-append}
+use Rattle.definitions.proofs.Filling.{length-borrowed}
 use Rattle.ring.specs.Work.{written}
 use Rattle.values.proofs.Parts.{putMid-written}
 use Rattle.values.proofs.load_highest.Statement.{statement}
@@ -48,12 +50,6 @@ part-decode-start c = search needs
 part-decode-end : tie.Need-part-decode-end
 part-decode-end c = let a = c .before .before .before .args in omega (arith, few (a .d) (a .n) (omega arith))
 
-words : (at n : ℕ) (l : List ℕ) → at + n ≤ length l → length (take (at + n - at) (drop at l)) ≡ n
-words at n l e = simp (length-take, length-drop) (omega arith)
-
-octets : (m : ℕ) (s : List ℕ) → m ≤ length s → length (take m s) ≡ m
-octets m s h = simp length-take (omega arith)
-
 decode-requires : tie.Need-decode-requires
 decode-requires c κs =
     let a = c .before .before .before .before .args in
@@ -61,7 +57,7 @@ decode-requires c κs =
     let inside : 2 * a .n + (a .d + 1) * a .n ≤ length (a .work .now) = omega (arith, few (a .d) (a .n) (p .1), p .0 .room) in (
       p .0 .octets-least,
       p .0 .octets-most,
-      octets ((a .d + 1) * a .n * a .qlen) (a .octets .now) (p .2) ∙ ap (λ (m : ℕ). m * a .qlen) (sym (words (2 * a .n) ((a .d + 1) * a .n) (a .work .now) inside)),
+      length-take-le ((a .d + 1) * a .n * a .qlen) (a .octets .now) (p .2) ∙ ap (λ (m : ℕ). m * a .qlen) (sym (length-borrowed (2 * a .n) ((a .d + 1) * a .n) (a .work .now) inside)),
     )
 
 same-length : tie.Need-same-length
@@ -76,8 +72,8 @@ returns c =
     let front : List ℕ = take (count * a .qlen) (a .octets .now) in
     let given : c .before .before .decode .last .1 .1 .0 ≡ decoded (a .qlen) count (a .octets .now) =
     c .before .before .decode .ensures
-    ∙ ap (λ (m : ℕ). decoded (a .qlen) m front) (words (2 * a .n) count (a .work .now) inside)
-    ∙ sym (decoded-append (a .qlen) count front (drop (count * a .qlen) (a .octets .now)) (le-of-eq (sym (octets (count * a .qlen) (a .octets .now) (p .2)))))
+    ∙ ap (λ (m : ℕ). decoded (a .qlen) m front) (length-borrowed (2 * a .n) count (a .work .now) inside)
+    ∙ sym (decoded-append (a .qlen) count front (drop (count * a .qlen) (a .octets .now)) (le-of-eq (sym (length-take-le (count * a .qlen) (a .octets .now) (p .2)))))
     ∙ ap (decoded (a .qlen) count) (take-append-drop (count * a .qlen) (a .octets .now)) in
     putMid-written (2 * a .n) count (a .work .now) _ (ap length given ∙ length-decoded _ _ _)
     ∙ ap (λ (l : List ℕ). written (2 * a .n) l (a .work .now)) given
