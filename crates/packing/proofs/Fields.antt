@@ -5,7 +5,7 @@
 --   bitAt-part       the bits of a part of a list
 --   fieldsOf-..      numbers from a number, one more; octets are such
 --   regrouped-add    a list regrouped, then so many places more, from the number of a group
---   regrouped-group  one group more: so many numbers of w bits, that are so many places of v bits;  group-step: as a loop makes it
+--   regrouped-group  one group more: so many numbers of w bits, that are so many places of v bits
 --   regrouped-parts  whole groups, a last one that may be short, and zeros
 -- Assumes nothing.
 use Prim.Native.Nat.{ℕ, zero, suc, _+_, _-_, _*_, _/_, _%_, _^_, _≤_, _<_, min}
@@ -21,7 +21,7 @@ use lib.Seq.{getD-take, getD-drop, take-all}
 use Rattle.definitions.specs.Sequences.{tabulate}
 use Rattle.definitions.specs.Octets.{numberOf, octetsOf, bitAt, regrouped}
 use Rattle.definitions.proofs.Sums.{sum-cong, sum-zero, tabulate-cong}
-use Rattle.definitions.proofs.Filling.{tabulate-snoc, tabulate-add, tabulate-const}
+use Rattle.definitions.proofs.Filling.{tabulate-add, tabulate-const}
 use Rattle.definitions.proofs.Octets.{AllBelow, below-head, below-tail, below-take, below-drop}
 use Rattle.definitions.proofs.Packing.{binary, binary-bits, bitAt-outside}
 use Rattle.octets.proofs.Laws.{stored, take-stored}
@@ -101,10 +101,6 @@ octetsOf-fields (suc len) x =
     (octetsOf-fields len (x / 256)
     ∙ tabulate-cong len (λ k l. ap (λ (y : ℕ). y % 256) (shr-shr x 8 (k * 8) ∙ ap (λ (e : ℕ). x / 2 ^ e) (omega (arith, suc-mul k 8)))))
 
-pub fieldsOf-snoc : (v count x : ℕ) → fieldsOf v (suc count) x ≡ fieldsOf v count x ++ (x / 2 ^ (count * v) % 2 ^ v ∷ [])
-unfolding fieldsOf
-fieldsOf-snoc v count x = tabulate-snoc count (λ k. x / 2 ^ (k * v) % 2 ^ v)
-
 -- ---- the bits of a part
 
 module _ (w : ℕ) (numbers : List ℕ) (pos : 0 < w) (a c : ℕ) where
@@ -154,14 +150,6 @@ regrouped-group w v places many numbers g pos same below =
     let start : g * many * w ≡ g * places * v = mul-assoc g many w ∙ ap (λ (k : ℕ). g * k) same ∙ sym (mul-assoc g places v) in
     regrouped-add w v numbers (g * many) many (g * places) places pos below start
     (λ t l. bitAt-part w numbers pos (g * many) many t (rw same l))
-
--- a turn of a loop over groups
-pub group-step : (w v places many : ℕ) (numbers l r : List ℕ) (g : ℕ) {x : ℕ} → 0 < w → many * w ≡ places * v → AllBelow (2 ^ w) numbers
-    → take (g * places) l ≡ regrouped w v (g * places) numbers → x ≡ valueIn w (take many (drop (g * many) numbers))
-    → take (g * places + places) r ≡ take (g * places) l ++ fieldsOf v places x → take ((g + 1) * places) r ≡ regrouped w v ((g + 1) * places) numbers
-group-step w v places many numbers l r g pos same below before value step =
-    let next : (g + 1) * places ≡ g * places + places = omega arith in
-    rw (next, regrouped-group w v places many numbers g pos same below, ← before, ← value) step
 
 -- the places past the last bit are zero
 pub regrouped-zeros : (w v : ℕ) (numbers : List ℕ) (i count : ℕ) → 0 < w → length numbers * w ≤ i * v

@@ -1,15 +1,14 @@
 -- Why the shifts of a group lose nothing: its coefficients have at most 32 bits together.
 --
 --   shift-..         the place of a coefficient's first bit is below 32, its end at most 32
---   shl-one          2^b as the code makes it
 --   value-next       the number of one coefficient more;  value-fits: it has at most 32 bits
 --   gather-..        the same as the code makes it
 -- Assumes nothing.
 use Prim.Native.Nat.{ℕ, suc, _+_, _*_, _%_, _^_, _≤_, _<_}
-use mathlib.Core.Path.{_≡_, _∙_}
+use mathlib.Core.Path.{_≡_}
 use mathlib.Core.Bool.{true}
 use mathlib.Core.List.{List}
-use native.Mathlib.Nat.{one-mul, suc-mul, mul-comm, mul-le-mul-right, le-trans, lt-of-lt-of-le}
+use native.Mathlib.Nat.{suc-mul, mul-comm, mul-le-mul-right, le-trans, lt-of-lt-of-le}
 use native.Mathlib.Numerals.{add-one}
 use native.Mathlib.Omega.{arith}
 use lib.Pow.{pow-mono, shl-exact}
@@ -29,9 +28,6 @@ module _ (k count b : ℕ) (few : k < count) (narrow : count * b ≤ 32) where
 
   pub shift-below : 0 < b → k * b < 32
   shift-below pos = omega (arith, shift-end)
-
-pub shl-one : (b : ℕ) → b ≤ 4 → 1 * 2 ^ b % 4294967296 ≡ 2 ^ b
-shl-one b l = shl-exact {a = 1} 1 b 32 (omega arith) (omega arith) ∙ one-mul (2 ^ b)
 
 -- the number of one coefficient more
 pub value-next : (words : List ℕ) (at b k : ℕ) → at + k < length words

@@ -11,7 +11,8 @@ use lib.ListN.{length, take, length-set}
 use Rattle.definitions.specs.Sequences.{tabulate}
 use Rattle.definitions.proofs.Filling.{fill-from-step}
 use Rattle.packing.specs.Fields.{fieldsOf}
-use Rattle.packing.proofs.Shifts.{shift-below, shl-one}
+use Rattle.definitions.proofs.Powers.{shl-one}
+use Rattle.packing.proofs.Shifts.{shift-below}
 use Rattle.unpacking.proofs.spread.Statement.{statement}
 use Rattle.unpacking.proofs.spread.Tie as tie
 
@@ -47,7 +48,7 @@ shr-words : tie.Need-shr-words Inv-loop μ-loop
 shr-words c = narrow c
 
 rem-words : tie.Need-rem-words Inv-loop μ-loop
-rem-words c = let a = c .before .before .args in rw (shl-one (a .b) (omega arith)) (pow-pos (a .b))
+rem-words c = let a = c .before .before .args in rw (shl-one (a .b) 32 (omega arith)) (pow-pos (a .b))
 
 add-words : tie.Need-add-words Inv-loop μ-loop
 add-words c = omega arith
@@ -72,7 +73,7 @@ loop-again c =
       omega arith,
       simp length-set (omega arith),
       fill-from-step (take (a .at) (a .words .now)) (l .words) (λ k. a .x / 2 ^ (k * a .b) % 2 ^ a .b) (a .at) (l .k) (omega arith)
-          (ap (λ (m : ℕ). a .x / 2 ^ (l .k * a .b) % m) (shl-one (a .b) (omega arith))) (l .inv .2),
+          (ap (λ (m : ℕ). a .x / 2 ^ (l .k * a .b) % m) (shl-one (a .b) 32 (omega arith))) (l .inv .2),
     )
 
 same-length : tie.Need-same-length Inv-loop μ-loop

@@ -8,7 +8,8 @@ use native.Mathlib.Omega.{arith}
 use lib.Dec.{lit≤}
 use lib.Pow.{pow-pos}
 use lib.ListN.{length, take, drop, length-set}
-use Rattle.packing.proofs.Shifts.{shift-below, shl-one}
+use Rattle.definitions.proofs.Powers.{shl-one}
+use Rattle.packing.proofs.Shifts.{shift-below}
 use Rattle.unpacking.specs.Lanes.{rowsOf}
 use Rattle.unpacking.proofs.Lanes.{row-step-take, row-step-drop, rows-end}
 use Rattle.unpacking.proofs.spread_rows.Statement.{statement}
@@ -73,7 +74,7 @@ narrow c =
     shift-below (c .before .loop .j * 4) (s .args .rows * 4) (s .args .b) (omega arith) (s .pre .3) (s .pre .0)
 
 positive : (c : tie.In-loop Inv-loop μ-loop) → 0 < 1 * 2 ^ c .before .before .before .before .before .before .args .b % 4294967296
-positive c = let s = c .before .before .before .before .before .before in rw (shl-one (s .args .b) (omega arith)) (pow-pos (s .args .b))
+positive c = let s = c .before .before .before .before .before .before in rw (shl-one (s .args .b) 32 (omega arith)) (pow-pos (s .args .b))
 
 mul-shift : tie.Need-mul-shift Inv-loop μ-loop
 mul-shift c = omega arith
@@ -168,8 +169,8 @@ loop-again c =
     let l = c .before .loop in (
       omega arith,
       simp length-set (omega arith),
-      row-step-take (a .words .now) (l .words) (a .at) (a .b) (l .j) (shl-one (a .b) (omega arith)) (omega arith) (omega arith) (l .inv .2) (l .inv .3) refl,
-      row-step-drop (a .words .now) (l .words) (a .at) (a .b) (l .j) (shl-one (a .b) (omega arith)) (omega arith) (omega arith) (l .inv .2) (l .inv .3) refl,
+      row-step-take (a .words .now) (l .words) (a .at) (a .b) (l .j) (shl-one (a .b) 32 (omega arith)) (omega arith) (omega arith) (l .inv .2) (l .inv .3) refl,
+      row-step-drop (a .words .now) (l .words) (a .at) (a .b) (l .j) (shl-one (a .b) 32 (omega arith)) (omega arith) (omega arith) (l .inv .2) (l .inv .3) refl,
     )
 
 same-length : tie.Need-same-length Inv-loop μ-loop
