@@ -9,8 +9,8 @@ ghost use Rattle.monomials.specs.Pairs.{monomialFrom};
 
 // A monomial, by its exponents of x and of y.
 pub struct Exponents {
-    pub x: usize,
-    pub y: usize,
+    pub x: u8,
+    pub y: u8,
 }
 
 // The 15 monomials of degree at most 4.
