@@ -1,6 +1,7 @@
 // The conversions between octets and coefficient words of 32 bits (01, "What the library does"): ring elements, public keys and
 // ciphertexts. Each call tests the set (refusals 1 to 5), the exact lengths (6), then the coefficients (8), and writes only where all of
-// them pass: a refusal leaves the output as it was. The contracts equate what a caller has at exit with the definitions' elementFromExit and the like.
+// them pass: a refusal leaves the output as it was. The contracts equate what a caller has at exit with the definitions'
+// elementFromExit and the like.
 use parameters::Parameters;
 use parameters::refusals;
 ghost use mathlib.Core.Path.{_≡_};

@@ -1,7 +1,8 @@
 // The C interface (include/giophantus.h): every call begins with the six numbers of the set, in the order l q n dx dr mlen, and answers
 // the refusal number, 0 at success. Nothing here asks anything of its callers: unfit input is refused by document 01's table, and a
 // refusal leaves every output as it was. Each contract is the equation of the call behind it: the definitions' keygenExit, isZeroExit,
-// encryptExit, addExit, decryptExit, limitsExit, lengthsExit, and elementFromExit and the like of the conversions.
+// encryptExit, addExit, decryptExit, limitsExit, lengthsExit, elementFromExit and the like of the conversions,
+// and setTests for the check.
 pub mod conversion;
 
 ghost use mathlib.Core.Path.{_≡_};

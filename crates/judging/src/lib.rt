@@ -4,7 +4,7 @@
 // qlen as a variable, and called with a constant, so that the compiler makes a loop for each qlen.
 use parameters::refusals;
 ghost use mathlib.Core.Path.{_≡_};
-ghost use Prim.Native.Nat.{ℕ, _+_, _*_, _/_, _^_, _≤_};
+ghost use Prim.Native.Nat.{_+_, _*_, _/_, _^_, _≤_};
 ghost use lib.ListN.{length, take, drop};
 ghost use Rattle.definitions.specs.Sequences.{tabulate};
 ghost use Rattle.definitions.specs.Octets.{coefficientAt, decoded};

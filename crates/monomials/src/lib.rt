@@ -1,6 +1,6 @@
 // The order of the monomials (01, "Ring, monomials, octets", second paragraph): by falling total degree, then by falling power of x.
 // The list of degree 4 is a table of exponent pairs, and the list of a lower degree is its tail. Contracts cite the definitions'
-// `monomialCount` and `monomialAt`. Nothing is refused: callers keep the degree to 4 and the place to the list.
+// `monomialCount` and `monomialAt`, through specs/Pairs.antt. Nothing is refused: callers keep the degree to 4 and the place to the list.
 ghost use mathlib.Core.Path.{_≡_};
 ghost use Prim.Native.Nat.{_+_, _≤_, _<_};
 ghost use Rattle.definitions.specs.Parameters.{monomialCount};

@@ -3,7 +3,7 @@
 --   value-..         the number of some numbers of w bits: its bits, its bound, one number more
 --   field-bits       some bits of a number, as a number
 --   bitAt-part       the bits of a part of a list
---   fieldsOf-..      numbers from a number, one more; octets are such
+--   octetsOf-fields  octets are numbers of 8 bits from a number
 --   regrouped-add    a list regrouped, then so many places more, from the number of a group
 --   regrouped-group  one group more: so many numbers of w bits, that are so many places of v bits
 --   regrouped-parts  whole groups, a last one that may be short, and zeros

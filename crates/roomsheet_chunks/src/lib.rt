@@ -1,6 +1,6 @@
 // roomsheet's text as it is read, in chunks of any size and with fixed buffers: the ended lines in front of a buffer are answered, what is
-// left is kept for the next read, and a last line may lack its newline. Refusals are text here, as roomsheet prints them. The contracts cite the definitions' roomsheet;
-// proofs/Streams.antt shows that a whole run prints roomsheet of the whole input.
+// left is kept for the next read, and a last line may lack its newline. Refusals are text here, as roomsheet prints them. The contracts
+// cite the definitions' roomsheet; proofs/Streams.antt shows that a whole run prints roomsheet of the whole input.
 ghost use mathlib.Core.Path.{_≡_};
 ghost use mathlib.Core.Bool.{cond};
 ghost use Prim.Native.Nat.{_+_, _≤_, min};

@@ -7,7 +7,7 @@
 --   fieldAnswer      the answer for a field at a place: refused with 11 where it does not fit, otherwise its number and the place past it
 --   digitsAt         the answer for digits at a place of a line
 --   numberAt         the answer for a number of 01's grammar there
---   NumbersRead      reading a line of so many numbers: whether it is well formed, and its numbers where it is
+--   NumbersRead      reading a line of so many numbers: whether it is well formed, and its numbers where it is; else they are left free
 --
 -- 01 places 11 before every other test, the length test too: so its refusal is `untouched`.
 -- Assumes nothing.

@@ -1,7 +1,6 @@
 -- Why the value that is found is that of the definitions: the octets' coefficients are the polynomial's, and the first two parts the secret's.
 --
 --   polynomialFrom-flat    the coefficients as they stand in the octets
---   unpacked-below         an unpacked secret's coefficients are below 16
 --   value-sizes, value-coefficients    what taking the value asks
 --   valued-..              what each return leaves
 -- Assumes nothing.

@@ -1,4 +1,5 @@
--- 01, "Ring, monomials, octets", last paragraph: the coefficients of a group, four at a time. A group has many × b octets, which are one number x, and many × 8 coefficients.
+-- 01, "Ring, monomials, octets", last paragraph: the coefficients of a group, four at a time. A group has many × b octets, which are one
+-- number x, and many × 8 coefficients.
 --
 --   lanesOf          x, and x shifted by b, 2 b and 3 b bits, so that each has a coefficient in its lowest bits
 --   rowOf            coefficients 4 j to 4 j + 3 from those four; rowsOf: so many rows
