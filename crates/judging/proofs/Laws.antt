@@ -253,11 +253,10 @@ or-ltb b x y =
 pub bits-none : (b : ℕ) → ltb 0 (2 ^ b) ≡ coefficientsFit (2 ^ b) []
 bits-none b = rw (coefficientsFit-none (2 ^ b)) (lt-ltb 0 (2 ^ b) (pow-pos b))
 
-pub bits-step : (b bits : ℕ) (words : List ℕ) (m k : ℕ) → m + k < length words
-    → ltb bits (2 ^ b) ≡ coefficientsFit (2 ^ b) (take k (drop m words))
-    → ltb (bitOr bits (getD words (m + k) 0)) (2 ^ b) ≡ coefficientsFit (2 ^ b) (take (k + 1) (drop m words))
-bits-step b bits words m k h e =
-    rw (part-snoc words m k h, coefficientsFit-snoc (2 ^ b) (take k (drop m words)) (getD words (m + k) 0), ← e) (or-ltb b bits (getD words (m + k) 0))
+pub bits-step : (b bits : ℕ) (words : List ℕ) (m : ℕ) → m < length words → ltb bits (2 ^ b) ≡ coefficientsFit (2 ^ b) (take m words)
+    → ltb (bitOr bits (getD words m 0)) (2 ^ b) ≡ coefficientsFit (2 ^ b) (take (m + 1) words)
+bits-step b bits words m h e =
+    rw (add-one m, take-suc words m 0 h, coefficientsFit-snoc (2 ^ b) (take m words) (getD words m 0), ← e) (or-ltb b bits (getD words m 0))
 
 -- what the bits tell of the words
 module _ (q bits : ℕ) (xs : List ℕ) (e : ltb bits q ≡ coefficientsFit q xs) where

@@ -1,6 +1,6 @@
 // Whether given coefficients fit (01, "Refusal table", number 8): octets and words are judged, and 8 is answered where one is not below the
 // limit. A judge reads several coefficients at a time, returns at the first of these where one is too large, and reads what is left one by
-// one. The contracts cite specs/Reading.antt and the definitions' coefficientAt and decoded. The loop over octets is written once, with
+// one; small words it reads all at once. The contracts cite specs/Reading.antt and the definitions' coefficientAt and decoded. The loop over octets is written once, with
 // qlen as a variable, and called with a constant, so that the compiler makes a loop for each qlen.
 use parameters::refusals;
 ghost use mathlib.Core.Path.{_≡_};
@@ -143,12 +143,11 @@ fn judge_words_rest(words: &[u32], from: usize, q: u32) -> u32
     0
 }
 
-// The words from a place on, where those before it fit: 32 at a time, then one by one.
-fn judge_words_from(words: &[u32], from: usize, q: u32) -> u32
-    requires { ⌜ (from ≤ length (now words)) × (fitNumber q (take from (now words)) ≡ 0) ⌝ }
+// 8 where a word is not below q, otherwise 0: 32 at a time, then one by one.
+pub fn judge_words(words: &[u32], q: u32) -> u32
     ensures { λ r. ⌜ r ≡ fitNumber q (now (words .entry)) ⌝ }
 {
-    let mut m = from;
+    let mut m = 0;
     while words.len() - m >= 32 {
         let Coefficients::Below = several_of(words, m, q) else {
             return refusals::COEFFICIENT;
@@ -158,24 +157,17 @@ fn judge_words_from(words: &[u32], from: usize, q: u32) -> u32
     judge_words_rest(words, m, q)
 }
 
-// 8 where a word is not below q, otherwise 0.
-pub fn judge_words(words: &[u32], q: u32) -> u32
-    ensures { λ r. ⌜ r ≡ fitNumber q (now (words .entry)) ⌝ }
-{
-    judge_words_from(words, 0, q)
-}
-
-// 128 words from place m on, against 2^b: a number is below it just where its bits are, and so are the bits of all of them together.
-fn several_small(words: &[u32], m: usize, b: u32) -> Coefficients
-    requires { ⌜ (b ≤ 4) × (m + 128 ≤ length (now words)) ⌝ }
-    ensures { λ r. ⌜ readingsNumber r ≡ fitNumber (2 ^ b) (take 128 (drop m (now (words .entry)))) ⌝ }
+// All words at once, against 2^b: a number is below it just where its bits are, and so are the bits of all of them together.
+fn all_small(words: &[u32], b: u32) -> Coefficients
+    requires { ⌜ b ≤ 4 ⌝ }
+    ensures { λ r. ⌜ readingsNumber r ≡ fitNumber (2 ^ b) (now (words .entry)) ⌝ }
 {
     let l: u32 = 1 << b;
     let mut bits: u32 = 0;
-    let mut k = 0;
-    while k < 128 {
-        bits |= words[m + k];
-        k += 1;
+    let mut m = 0;
+    while m < words.len() {
+        bits |= words[m];
+        m += 1;
     }
     if bits < l {
         Coefficients::Below
@@ -189,12 +181,8 @@ pub fn judge_small(words: &[u32], b: u32) -> u32
     requires { ⌜ b ≤ 4 ⌝ }
     ensures { λ r. ⌜ r ≡ fitNumber (2 ^ b) (now (words .entry)) ⌝ }
 {
-    let mut m = 0;
-    while words.len() - m >= 128 {
-        let Coefficients::Below = several_small(words, m, b) else {
-            return refusals::COEFFICIENT;
-        };
-        m += 128;
-    }
-    judge_words_from(words, m, 1 << b)
+    let Coefficients::Below = all_small(words, b) else {
+        return refusals::COEFFICIENT;
+    };
+    0
 }
