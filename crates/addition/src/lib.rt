@@ -3,6 +3,8 @@
 // a refusal leaves the output as it was. The two summands may be one buffer. The contract cites the definitions' addExit. The sum of two
 // coefficients is ring::sum alone.
 ghost use mathlib.Core.Path.{_≡_};
+ghost use Prim.Native.Nat.{_*_, _≤_};
+ghost use lib.ListN.{take};
 ghost use Rattle.definitions.specs.Octets.{encoded};
 ghost use Rattle.definitions.specs.Calls.{addExit};
 ghost use Rattle.parameters.specs.Answers.{setFrom};
@@ -10,12 +12,13 @@ ghost use Rattle.addition.specs.Sums.{Judged, coefficientSums};
 use parameters::Parameters;
 use parameters::refusals;
 
-// So many coefficients, of summands that were judged.
-fn add_by(a: &[u8], b: &[u8], count: usize, qlen: usize, q: u32, sum: &mut [u8])
+// The sums from a place on, one by one, where those before it are written.
+fn add_rest(a: &[u8], b: &[u8], from: usize, count: usize, qlen: usize, q: u32, sum: &mut [u8])
     requires { ⌜ Judged q qlen count (now a) (now b) (now sum) ⌝ }
+    requires { ⌜ (from ≤ count) × (take (from * qlen) (now sum) ≡ encoded qlen (take from (coefficientSums q qlen count (now a) (now b)))) ⌝ }
     ensures { λ _. ⌜ now (sum .exit) ≡ encoded qlen (coefficientSums q qlen count (now (a .entry)) (now (b .entry))) ⌝ }
 {
-    let mut m = 0;
+    let mut m = from;
     while m < count {
         let at = m * qlen;
         let x = octets::number(a, at, qlen);
@@ -23,6 +26,23 @@ fn add_by(a: &[u8], b: &[u8], count: usize, qlen: usize, q: u32, sum: &mut [u8])
         octets::store(sum, at, qlen, ring::sum(x, y, q));
         m += 1;
     }
+}
+
+// So many coefficients, of summands that were judged. While three more follow, four octets are read and written at once; those past
+// a sum's own are written over by the next.
+fn add_by(a: &[u8], b: &[u8], count: usize, qlen: usize, q: u32, sum: &mut [u8])
+    requires { ⌜ Judged q qlen count (now a) (now b) (now sum) ⌝ }
+    ensures { λ _. ⌜ now (sum .exit) ≡ encoded qlen (coefficientSums q qlen count (now (a .entry)) (now (b .entry))) ⌝ }
+{
+    let mut m = 0;
+    while count - m > 3 {
+        let at = m * qlen;
+        let x = octets::wide_number(a, at, qlen);
+        let y = octets::wide_number(b, at, qlen);
+        octets::store(sum, at, 4, ring::sum(x, y, q));
+        m += 1;
+    }
+    add_rest(a, b, m, count, qlen, q, sum);
 }
 
 // One loop for each qlen, by a constant.

@@ -228,18 +228,24 @@ module _ (m qlen : ℕ) {count total : ℕ} (inside : m < count) (exact : count 
 pub wide-room : (m qlen octets : ℕ) {count total : ℕ} → m + octets ≤ count → 1 ≤ qlen → count * qlen ≤ total → m * qlen + octets ≤ total
 wide-room m qlen octets inside pos exact = omega (arith, mul-le-mul-right qlen inside, mul-le-mul-left octets pos)
 
--- a turn of a loop that stores the octets of the word at place m, and perhaps one octet more
-encode-turn : (m qlen : ℕ) (words l r : List ℕ) → m < length words → take (m * qlen + qlen) r ≡ take (m * qlen) l ++ octetsOf qlen (getD words m 0)
-    → take (m * qlen) l ≡ encoded qlen (take m words) → take ((m + 1) * qlen) r ≡ encoded qlen (take (m + 1) words)
-encode-turn m qlen words l r inside e before =
-    let next : (m + 1) * qlen ≡ m * qlen + qlen = omega arith in
-    rw (next, e, before, add-one m, take-suc words m 0 inside, encoded-snoc qlen (take m words) (getD words m 0))
+-- a turn of a loop that stores the octets of the word at place m, and perhaps some more, which the next turn writes over
+pub encode-wide : (m qlen len : ℕ) (words l : List ℕ) {r : List ℕ} → m < length words → qlen ≤ len → m * qlen + len ≤ length l
+    → r ≡ stored (m * qlen) len (getD words m 0) l → take (m * qlen) l ≡ encoded qlen (take m words)
+    → take ((m + 1) * qlen) r ≡ encoded qlen (take (m + 1) words)
+encode-wide m qlen len words l {r} inside whole room e before = go (len - qlen) (omega arith)
+  where
+    go : (more : ℕ) → qlen + more ≡ len → take ((m + 1) * qlen) r ≡ encoded qlen (take (m + 1) words)
+    go more size =
+        let next : (m + 1) * qlen ≡ m * qlen + qlen = omega arith in
+        let front : take (m * qlen + qlen) r ≡ take (m * qlen) l ++ octetsOf qlen (getD words m 0)
+        = ap (take (m * qlen + qlen)) (rw (← size) at e) ∙ take-stored-front (m * qlen) qlen more (getD words m 0) l (rw size room) in
+        rw (next, front, before, add-one m, take-suc words m 0 inside, encoded-snoc qlen (take m words) (getD words m 0))
 
+-- and of one that stores no more than those
 pub encode-step : (m qlen : ℕ) (words l : List ℕ) {r : List ℕ} → m < length words → length words * qlen ≤ length l
     → r ≡ stored (m * qlen) qlen (getD words m 0) l → take (m * qlen) l ≡ encoded qlen (take m words)
     → take ((m + 1) * qlen) r ≡ encoded qlen (take (m + 1) words)
-encode-step m qlen words l inside exact e =
-    encode-turn m qlen words l _ inside (ap (take (m * qlen + qlen)) e ∙ take-stored (m * qlen) qlen (getD words m 0) l (place-end m qlen inside exact))
+encode-step m qlen words l inside exact = encode-wide m qlen qlen words l inside (omega arith) (place-end m qlen inside exact)
 
 -- two words at a time, with perhaps some octets more
 encode-pair : (m qlen more : ℕ) (words l : List ℕ) {x : ℕ} {r : List ℕ} → m + 2 ≤ length words → m * qlen + (qlen + qlen + more) ≤ length l

@@ -1,16 +1,16 @@
--- `addition::add_by` is right because each turn stores the octets of its place's sum behind those of the places before it.
+-- `addition::add_by` is right because each turn stores the octets of its place's sum behind those of the places before, and the last ones follow.
 -- Assumes nothing.
-use Prim.Native.Nat.{ℕ, _+_, _-_, _*_, _%_, _≤_}
-use mathlib.Core.Path.{_≡_, refl, sym, ap₂, _∙_}
+use Prim.Native.Nat.{ℕ, _+_, _-_, _*_, _≤_, _<_}
+use mathlib.Core.Path.{_≡_, refl, sym, _∙_}
+use mathlib.Core.List.{List}
 use native.Mathlib.Nat.{le-of-eq, zero-mul}
 use native.Mathlib.Omega.{arith}
 use lib.ListN.{length, take}
 use Rattle.definitions.specs.Sequences.{joined}
 use Rattle.definitions.specs.Octets.{coefficientAt, encoded}
-use Rattle.definitions.proofs.Octets.{coefficientsFit-at}
-use Rattle.octets.proofs.Laws.{place-end, place-fits}
+use Rattle.octets.proofs.Laws.{place-fits, wide-room}
 use Rattle.addition.specs.Sums.{coefficientSums}
-use Rattle.addition.proofs.Sums.{coefficientSums-step, coefficientSums-end}
+use Rattle.addition.proofs.Sums.{coefficientSums-step, judged-below, judged-kept}
 use Rattle.addition.proofs.add_by.Statement.{statement}
 use Rattle.addition.proofs.add_by.Tie as tie
 
@@ -25,44 +25,54 @@ loop-holds : tie.Need-loop-holds Inv-loop μ-loop
 unfolding encoded joined
 loop-holds c = (omega arith, refl, rw (zero-mul (c .before .before .before .args .qlen)))
 
+sub-loop : tie.Need-sub-loop Inv-loop μ-loop
+sub-loop c = c .loop .inv .0
+
+-- three coefficients more follow a turn's place
+more : (c : tie.In-loop Inv-loop μ-loop) → c .before .loop .m + 4 ≤ c .before .before .before .before .before .args .count
+more c = omega arith
+
+inside : (c : tie.In-loop Inv-loop μ-loop) → c .before .loop .m < c .before .before .before .before .before .args .count
+inside c = omega arith
+
+-- so the summands and the sum are long enough for four octets from there
+room : (c : tie.In-loop Inv-loop μ-loop) (l : List ℕ)
+    → length l ≡ c .before .before .before .before .before .args .count * c .before .before .before .before .before .args .qlen
+    → c .before .loop .m * c .before .before .before .before .before .args .qlen + 4 ≤ length l
+room c l e =
+    let s = c .before .before .before .before .before in
+    wide-room (c .before .loop .m) (s .args .qlen) 4 (more c) (s .pre .least) (le-of-eq (sym e))
+
+room-sum : (c : tie.In-loop Inv-loop μ-loop)
+    → c .before .loop .m * c .before .before .before .before .before .args .qlen + 4 ≤ length (c .before .loop .sum)
+room-sum c = room c (c .before .loop .sum) (c .before .loop .inv .1 ∙ c .before .before .before .before .before .pre .sum-length)
+
 mul-at : tie.Need-mul-at Inv-loop μ-loop
 mul-at c =
     let s = c .before .before .before .before .before in
-    record { fits = place-fits (c .before .loop .m) (s .args .qlen) (c .loop-test .taken) (le-of-eq (sym (s .pre .a-length))) (s .good .0 .0) }
+    record { fits = place-fits (c .before .loop .m) (s .args .qlen) (inside c) (le-of-eq (sym (s .pre .a-length))) (s .good .0 .0) }
 
-number-requires : tie.Need-number-requires Inv-loop μ-loop
-number-requires c κs =
+wide-number-requires : tie.Need-wide-number-requires Inv-loop μ-loop
+wide-number-requires c κs =
     let s = c .before .before .before .before .before in
-    (s .pre .most, place-end (c .before .loop .m) (s .args .qlen) (c .loop-test .taken) (le-of-eq (sym (s .pre .a-length))))
+    (s .pre .least, s .pre .most, room c (s .args .a .now) (s .pre .a-length))
 
-number-requires-2 : tie.Need-number-requires-2 Inv-loop μ-loop
-number-requires-2 c κs =
+wide-number-requires-2 : tie.Need-wide-number-requires-2 Inv-loop μ-loop
+wide-number-requires-2 c κs =
     let s = c .before .before .before .before .before .before in
-    (s .pre .most, place-end (c .before .before .loop .m) (s .args .qlen) (c .before .loop-test .taken) (le-of-eq (sym (s .pre .b-length))))
+    (s .pre .least, s .pre .most, room (c .before) (s .args .b .now) (s .pre .b-length))
 
 sum-requires : tie.Need-sum-requires Inv-loop μ-loop
 unfolding coefficientAt
 sum-requires c κs =
     let s = c .before .before .before .before .before .before .before .before in
-    let inside = c .before .before .before .loop-test .taken in
-    let x = coefficientsFit-at (s .args .q) (s .args .qlen) (s .args .count) (s .args .a .now) (s .pre .a-fits) inside in
-    let y = coefficientsFit-at (s .args .q) (s .args .qlen) (s .args .count) (s .args .b .now) (s .pre .b-fits) inside in
-    (rw (c .before .before .number .ensures) x, rw (c .before .number2 .ensures) y, s .pre .modulus)
-
--- the sum is long enough for the place that a turn writes
-room : (c : tie.In-loop Inv-loop μ-loop)
-    → c .before .before .before .before .before .args .count * c .before .before .before .before .before .args .qlen
-    ≤ length (c .before .loop .sum)
-room c = le-of-eq (sym (c .before .loop .inv .1 ∙ c .before .before .before .before .before .pre .sum-length))
+    judged-below (s .pre) (inside (c .before .before .before)) (c .before .before .wide-number .ensures) (c .before .wide-number2 .ensures)
 
 store-requires : tie.Need-store-requires Inv-loop μ-loop
-store-requires c κs =
-    let s = c .before .before .before .before .before .before .before .before .before in
-    let t = c .before .before .before .before in
-    (s .pre .most, place-end (t .before .loop .m) (s .args .qlen) (t .loop-test .taken) (room t))
+store-requires c κs = (omega arith, room-sum (c .before .before .before .before))
 
 add-m : tie.Need-add-m Inv-loop μ-loop
-add-m c = omega (arith, c .before .before .before .before .before .before .before .loop-test .taken)
+add-m c = omega arith
 
 loop-less : tie.Need-loop-less Inv-loop μ-loop
 loop-less c = omega arith
@@ -71,27 +81,26 @@ loop-again : tie.Need-loop-again Inv-loop μ-loop
 unfolding coefficientAt
 loop-again c =
     let t = c .before .before .before .before .before .before .before in
-    let a = t .before .before .before .before .before .args in
-    let l = t .before .loop in
-    let value : c .before .before .before .sum .result
-    ≡ (coefficientAt (a .qlen) (a .a .now) (l .m) + coefficientAt (a .qlen) (a .b .now) (l .m)) % a .q =
-    c .before .before .before .sum .ensures
-    ∙ ap₂ (λ (x y : ℕ). (x + y) % a .q) (c .before .before .before .before .before .before .number .ensures) (c .before .before .before .before .before .number2 .ensures) in (
-      omega (arith, t .loop-test .taken),
+    let s = t .before .before .before .before .before in
+    let a = s .args in
+    let l = t .before .loop in (
+      omega arith,
       c .before .before .store .kept .0 ∙ l .inv .1,
-      coefficientSums-step (a .q) (a .qlen) (a .count) (a .a .now) (a .b .now) (l .m) (l .sum) (t .loop-test .taken) (room t) value (c .before .before .store .ensures) (l .inv .2),
+      coefficientSums-step (a .q) (a .qlen) (a .count) (a .a .now) (a .b .now) (l .m) 4 (l .sum) (inside t) (s .pre .most) (room-sum t)
+          (c .before .before .before .before .before .before .wide-number .ensures) (c .before .before .before .before .before .wide-number2 .ensures)
+          (c .before .before .before .sum .ensures) (c .before .before .store .ensures) (l .inv .2),
     )
+
+add-rest-requires : tie.Need-add-rest-requires Inv-loop μ-loop
+add-rest-requires c κs =
+    let l = c .before .before .loop in
+    (judged-kept (c .before .before .before .before .before .before .pre) (l .inv .1), (l .inv .0, l .inv .2))
 
 same-length : tie.Need-same-length Inv-loop μ-loop
 same-length c = omega arith
 
 returns : tie.Need-returns Inv-loop μ-loop
-returns c =
-    let s = c .before .before .before .before .before in
-    let a = s .args in
-    let l = c .before .loop in
-    let end : a .count ≡ l .m = omega arith in
-    coefficientSums-end (a .q) (a .qlen) (a .count) (a .a .now) (a .b .now) (l .m) (l .sum) end (l .inv .1 ∙ s .pre .sum-length) (l .inv .2)
+returns c = c .before .before .add-rest .ensures
 
 pub add-by-spec : {M : Type 1} → statement M
 add-by-spec =
@@ -100,13 +109,15 @@ add-by-spec =
     Inv-loop
     μ-loop
     loop-holds
+    sub-loop
     mul-at
-    number-requires
-    number-requires-2
+    wide-number-requires
+    wide-number-requires-2
     sum-requires
     store-requires
     add-m
     loop-less
     loop-again
+    add-rest-requires
     same-length
     returns)
