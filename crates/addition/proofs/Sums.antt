@@ -17,7 +17,7 @@ use Rattle.definitions.specs.Calls.{polynomialFrom, octetsFrom, sumModulo}
 use Rattle.definitions.proofs.Sums.{length-tabulate, getD-tabulate, tabulate-cong}
 use Rattle.definitions.proofs.Elements.{polynomialFrom-at}
 use Rattle.definitions.proofs.Octets.{coefficientsFit-at}
-use Rattle.octets.proofs.Laws.{stored, encode-wide, encode-end}
+use Rattle.encoding.proofs.Laws.{stored, encode-wide, encode-end}
 use Rattle.addition.specs.Sums.{Judged, coefficientSums}
 
 module _ (q len count : ℕ) (a b : List ℕ) where

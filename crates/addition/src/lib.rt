@@ -21,9 +21,9 @@ fn add_rest(a: &[u8], b: &[u8], from: usize, count: usize, qlen: usize, q: u32, 
     let mut m = from;
     while m < count {
         let at = m * qlen;
-        let x = octets::number(a, at, qlen);
-        let y = octets::number(b, at, qlen);
-        octets::store(sum, at, qlen, ring::sum(x, y, q));
+        let x = decoding::number(a, at, qlen);
+        let y = decoding::number(b, at, qlen);
+        encoding::store(sum, at, qlen, ring::sum(x, y, q));
         m += 1;
     }
 }
@@ -37,9 +37,9 @@ fn add_by(a: &[u8], b: &[u8], count: usize, qlen: usize, q: u32, sum: &mut [u8])
     let mut m = 0;
     while count - m > 3 {
         let at = m * qlen;
-        let x = octets::wide_number(a, at, qlen);
-        let y = octets::wide_number(b, at, qlen);
-        octets::store(sum, at, 4, ring::sum(x, y, q));
+        let x = decoding::wide_number(a, at, qlen);
+        let y = decoding::wide_number(b, at, qlen);
+        encoding::store(sum, at, 4, ring::sum(x, y, q));
         m += 1;
     }
     add_rest(a, b, m, count, qlen, q, sum);

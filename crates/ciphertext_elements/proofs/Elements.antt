@@ -21,12 +21,11 @@ use Rattle.definitions.specs.Monomials.{constantTerm}
 use Rattle.definitions.specs.Octets.{unpacked}
 use Rattle.definitions.specs.Draws.{noiseDrawn}
 use Rattle.definitions.specs.Calls.{smallOf, elementsFit, decodedElements}
-use Rattle.definitions.proofs.Parameters.{Accepted, accepted-set, modulus-positive, modulus-word, qlen-least, qlen-most, range-least, range-most}
+use Rattle.definitions.proofs.Parameters.{Accepted, accepted-set, modulus-positive, modulus-word, qlen-least, qlen-most, range-least, range-most, key-degree-most, mask-degree-most}
 use Rattle.definitions.proofs.Packing.{length-unpacked}
 use Rattle.definitions.proofs.Small.{unpacked-small}
 use Rattle.lengths.proofs.Bounds.{monomialCount-le}
 use Rattle.parameters.proofs.NoiseBound.{partial, power, partial-suc, partial-le, bound-partial, turn-start}
-use Rattle.definitions.proofs.Parameters.{key-degree-most, mask-degree-most}
 use Rattle.definitions.proofs.Octets.{coefficientsFit-at}
 use Rattle.ring.specs.Work.{part, written, Apart}
 use Rattle.ring.proofs.Work.{part-written, getD-written, getD-written-before, getD-written-after, length-written, length-written-tabulate}

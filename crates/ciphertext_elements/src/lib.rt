@@ -104,7 +104,7 @@ fn encode_element(work: &[u32], m: usize, n: usize, width: usize, ciphertext: &m
     let stop = at + n;
     let from = m * n * width;
     let end = from + n * width;
-    octets::encode(&work[at..stop], width, &mut ciphertext[from..end]);
+    encoding::encode(&work[at..stop], width, &mut ciphertext[from..end]);
 }
 
 // Every element, one after the other.

@@ -27,7 +27,7 @@ fn elements_from_octets(p: Parameters, elements: usize, octets: &[u8], words: &m
     if judged_octets != 0 {
         return judged_octets;
     }
-    octets::decode(octets, qlen, words);
+    decoding::decode(octets, qlen, words);
     0
 }
 
@@ -46,7 +46,7 @@ fn elements_to_octets(p: Parameters, elements: usize, words: &[u32], octets: &mu
     if judged_words != 0 {
         return judged_words;
     }
-    octets::encode(words, lengths::octets_of_coefficient(p.q), octets);
+    encoding::encode(words, lengths::octets_of_coefficient(p.q), octets);
     0
 }
 

@@ -19,11 +19,10 @@ use Rattle.definitions.specs.Ring.{modulo}
 use Rattle.definitions.specs.Calls.{DecryptExit, decryptedValue, decryptedElement, decryptedFrom, decryptAnswer, decryptLeaves, decryptExit}
 use Rattle.definitions.specs.Demand3.{AcceptedSet}
 use Rattle.definitions.proofs.Refusals.{Numbered, firstRefusal-append, firstRefusal-append-refused}
-use Rattle.definitions.proofs.Parameters.{Accepted, accepted-set}
+use Rattle.definitions.proofs.Parameters.{Accepted, accepted-set, key-degree-most, mask-degree-most}
 use Rattle.definitions.proofs.Decryption.{tailClear-cong, messageOf-cong}
 use Rattle.ring.specs.Work.{part}
 use Rattle.definitions.proofs.Exits.{exit-set, exit-length, exit-refused, exit-accepted}
-use Rattle.definitions.proofs.Parameters.{key-degree-most, mask-degree-most}
 use Rattle.secrets.specs.Secrets.{Exact, Valued, judgeTests}
 use Rattle.decryption.specs.Decrypted.{tailTests, MessageOf, Decrypted}
 

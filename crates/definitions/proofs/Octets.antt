@@ -3,6 +3,7 @@
 --   AllBelow               each number of a list is below a bound
 --   numberOf-octetsOf ..   a number and its octets, both ways
 --   coefficientAt-..       the coefficient at a place of octets put together from groups
+--   place-.., wide-room    where the octets of a coefficient lie, and that some more follow
 --   decoded-.., encoded-.. coefficients and their octets, both ways
 --   octetsFrom-cong        a polynomial's octets depend on its coefficients alone
 -- Assumes nothing.
@@ -10,7 +11,7 @@ use Prim.Native.Nat.{ℕ, zero, suc, _+_, _*_, _/_, _%_, _^_, _≤_, _<_, suc-le
 use mathlib.Core.Path.{_≡_, refl, sym, ap, ap₂, _∙_}
 use mathlib.Core.Bool.{true}
 use mathlib.Core.List.{List, [], _∷_, _++_, append-assoc, append-nil}
-use native.Mathlib.Nat.{mul-zero, mod-lt, div-lt-iff-lt-mul, not-suc-le-zero, le-of-suc-le-suc, zero-lt-suc, zero-mul, suc-mul, add-comm, pow-suc, le-trans, mul-le-mul-right}
+use native.Mathlib.Nat.{mul-zero, mod-lt, div-lt-iff-lt-mul, not-suc-le-zero, le-of-suc-le-suc, zero-lt-suc, zero-mul, suc-mul, add-comm, pow-suc, le-trans, mul-le-mul-right, mul-le-mul-left}
 use native.Mathlib.Omega.{arith}
 use lib.ListN.{length, getD, take, drop, length-append, take-append-drop, length-drop}
 use borrow.Author.Tests.{ltb-true, lt-ltb}
@@ -104,6 +105,19 @@ decoded-suc qlen count octets =
 pub encoded-cons : (qlen x : ℕ) (xs : List ℕ) → encoded qlen (x ∷ xs) ≡ octetsOf qlen x ++ encoded qlen xs
 unfolding encoded joined
 encoded-cons qlen x xs = refl
+
+-- ---- where the octets of a coefficient lie
+
+module _ (m qlen : ℕ) {count total : ℕ} (inside : m < count) (exact : count * qlen ≤ total) where
+  pub place-end : m * qlen + qlen ≤ total
+  place-end = omega (arith, mul-le-mul-right qlen inside, suc-mul m qlen)
+
+  pub place-fits : {bound : ℕ} → total < bound → m * qlen < bound
+  place-fits h = omega (arith, place-end)
+
+-- so many octets from a place on, where as many coefficients follow
+pub wide-room : (m qlen octets : ℕ) {count total : ℕ} → m + octets ≤ count → 1 ≤ qlen → count * qlen ≤ total → m * qlen + octets ≤ total
+wide-room m qlen octets inside pos exact = omega (arith, mul-le-mul-right qlen inside, mul-le-mul-left octets pos)
 
 -- ---- coefficients and their octets
 

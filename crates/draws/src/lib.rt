@@ -39,7 +39,7 @@ pub fn draw_below(random: &[u8], start: usize, q: u32, words: &mut [u32]) -> Run
             if random.len() - at < width {
                 break 'coefficients;
             }
-            let x = octets::number(random, at, width) & mask;
+            let x = decoding::number(random, at, width) & mask;
             at += width;
             groups += 1;
             if x < q {

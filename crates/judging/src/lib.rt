@@ -38,7 +38,7 @@ fn coefficient_at(octets: &[u8], m: usize, qlen: usize, q: u32) -> Coefficient
     requires { ⌜ (1 ≤ qlen) × (qlen ≤ 4) × (m * qlen + qlen ≤ length (now octets)) ⌝ }
     ensures { λ r. ⌜ readingAs r ≡ coefficientAnswer q (coefficientAt qlen (now (octets .entry)) m) ⌝ }
 {
-    bounded(octets::number(octets, m * qlen, qlen), q)
+    bounded(decoding::number(octets, m * qlen, qlen), q)
 }
 
 // 64 coefficients from place m on, each read as four octets. The loop goes on in any case, so that the compiler judges several at once.
@@ -49,7 +49,7 @@ fn several_at(octets: &[u8], m: usize, qlen: usize, q: u32) -> Coefficients
     let mut large = 0;
     let mut k = 0;
     while k < 64 {
-        if octets::wide_number(octets, (m + k) * qlen, qlen) >= q {
+        if decoding::wide_number(octets, (m + k) * qlen, qlen) >= q {
             large = 1;
         }
         k += 1;

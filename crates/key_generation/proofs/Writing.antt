@@ -16,13 +16,12 @@ use Rattle.definitions.specs.Monomials.{value}
 use Rattle.definitions.specs.Octets.{coefficientAt, encoded}
 use Rattle.definitions.specs.Draws.{secretDrawn}
 use Rattle.definitions.specs.Calls.{keyDraws, keyPairOf}
-use Rattle.definitions.proofs.Parameters.{Accepted, accepted-set, modulus-positive, modulus-word, qlen-least, qlen-most}
+use Rattle.definitions.proofs.Parameters.{Accepted, accepted-set, modulus-positive, modulus-word, qlen-least, qlen-most, key-degree-most}
 use Rattle.definitions.proofs.Monomials.{monomialCount-pos}
 use Rattle.definitions.proofs.Octets.{AllBelow}
 use Rattle.definitions.proofs.Draws.{draws-values-below}
 use Rattle.ring.specs.Work.{part}
 use Rattle.values.specs.Folding.{Sizes, flat}
-use Rattle.definitions.proofs.Parameters.{key-degree-most}
 use Rattle.key_generation.specs.Keys.{drawnWords, keysOf, Ready, SecretWritten}
 use Rattle.key_generation.proofs.Parts.{elements-most, drawn-room, drawn-length}
 use Rattle.key_generation.proofs.Halves.{secretDrawn-small}

@@ -45,7 +45,7 @@ fn write_terms(work: &mut [u32], elements: usize, n: usize, qlen: usize, public:
     let stop = at + elements * n;
     let end = stop + n;
     ring::clear(&mut work[stop..end]);
-    octets::encode(&work[at..end], qlen, public);
+    encoding::encode(&work[at..end], qlen, public);
 }
 
 // A secret element, drawn from the octets at a place on, and its octets.
@@ -81,7 +81,7 @@ fn write_constant(public: &mut [u8], d: usize, n: usize, qlen: usize, q: u32, wo
     ring_multiples::negate(work, at, n, q);
     let stop = at + n;
     let from = public.len() - n * qlen;
-    octets::encode(&work[at..stop], qlen, &mut public[from..]);
+    encoding::encode(&work[at..stop], qlen, &mut public[from..]);
 }
 
 // Both keys, once the elements of every term but the constant are drawn.

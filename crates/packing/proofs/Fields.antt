@@ -24,7 +24,7 @@ use Rattle.definitions.proofs.Sums.{sum-cong, sum-zero, tabulate-cong}
 use Rattle.definitions.proofs.Filling.{tabulate-add, tabulate-const}
 use Rattle.definitions.proofs.Octets.{AllBelow, below-head, below-tail, below-take, below-drop}
 use Rattle.definitions.proofs.Packing.{binary, binary-bits, bitAt-outside}
-use Rattle.octets.proofs.Laws.{stored, take-stored}
+use Rattle.encoding.proofs.Laws.{stored, take-stored}
 use Rattle.packing.specs.Fields.{valueIn, fieldsOf}
 
 -- ---- bits of a number

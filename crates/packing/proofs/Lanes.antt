@@ -21,7 +21,7 @@ use Rattle.definitions.specs.Octets.{octetsOf, regrouped, encoded, coefficients
 use Rattle.definitions.proofs.Filling.{tabulate-snoc}
 use Rattle.definitions.proofs.Sums.{tabulate-cong}
 use Rattle.definitions.proofs.Octets.{AllBelow, coefficientsFit-below}
-use Rattle.octets.proofs.Laws.{encoded-snoc}
+use Rattle.encoding.proofs.Laws.{encoded-snoc}
 use Rattle.packing.specs.Fields.{valueIn, fieldsOf}
 use Rattle.packing.specs.Lanes.{laneFrom, lanesIn, laneNumber, groupNumber}
 use Rattle.packing.proofs.Fields.{octetsOf-fields, regrouped-group}

@@ -123,7 +123,7 @@ fn join_groups(lanes: &[u32], b: usize, many: usize, start: usize, some: usize, 
 {
     let mut g = 0;
     while g < some {
-        octets::store(
+        encoding::store(
             octets,
             (start + g) * (many * b),
             many * b,
@@ -183,6 +183,6 @@ pub fn pack(words: &[u32], b: u32, octets: &mut [u8])
     let from = groups * len;
     let count = least(words.len() - at, size);
     let rest = least(octets.len() - from, len);
-    octets::store(octets, from, rest, gather(words, at, count, width));
+    encoding::store(octets, from, rest, gather(words, at, count, width));
     clear_octets(octets, from + rest);
 }

@@ -18,13 +18,12 @@ use Rattle.definitions.specs.Octets.{coefficientAt}
 use Rattle.definitions.specs.Calls.{secretX, secretY, secretPadded, decodedElements, polynomialFrom, elementsFit}
 use Rattle.definitions.proofs.Refusals.{firstRefusal-applies, firstRefusal-passes, firstRefusal-last}
 use Rattle.definitions.proofs.Parameters.{Accepted, accepted-set, modulus-positive, modulus-word, qlen-least, qlen-most, range-most}
-use Rattle.definitions.proofs.Octets.{getD-decoded}
+use Rattle.definitions.proofs.Octets.{getD-decoded, coefficientsFit-at}
 use Rattle.definitions.proofs.Small.{smallOf-below}
 use Rattle.definitions.proofs.Values.{value-cong}
 use Rattle.ring.specs.Work.{part}
 use Rattle.values.specs.Folding.{Sizes, flat}
 use Rattle.values.proofs.Stages.{value-cong-secret}
-use Rattle.definitions.proofs.Octets.{coefficientsFit-at}
 use Rattle.secrets.specs.Secrets.{Exact, Unpacked, Valued, valueFrom}
 
 module _ (p : Parameters) (d : ℕ) (secret octets : List ℕ) where

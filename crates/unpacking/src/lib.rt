@@ -81,7 +81,7 @@ fn place_groups(octets: &[u8], b: usize, many: usize, groups: usize, words: &mut
             words,
             g * (many * 8),
             b,
-            octets::number(octets, g * (many * b), many * b),
+            decoding::number(octets, g * (many * b), many * b),
         );
         g += 1;
     }
@@ -142,6 +142,6 @@ pub fn unpack(octets: &[u8], b: u32, words: &mut [u32])
     let from = groups * len;
     let count = packing::least(words.len() - at, size);
     let rest = packing::least(octets.len() - from, len);
-    spread(words, at, count, width, octets::number(octets, from, rest));
+    spread(words, at, count, width, decoding::number(octets, from, rest));
     clear_words(words, at + count);
 }

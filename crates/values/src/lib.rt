@@ -24,7 +24,7 @@ pub fn load(octets: &[u8], element: usize, n: usize, qlen: usize, work: &mut [u3
     let from = element * n * qlen;
     let end = from + n * qlen;
     let stop = at + n;
-    octets::decode(&octets[from..end], qlen, &mut work[at..stop]);
+    decoding::decode(&octets[from..end], qlen, &mut work[at..stop]);
 }
 
 // One term of total degree k - 1: its coefficient and u_x times the term of total degree k at the same place.
@@ -100,7 +100,7 @@ fn load_highest(octets: &[u8], d: usize, n: usize, qlen: usize, work: &mut [u32]
     let end = count * qlen;
     let at = 2 * n;
     let stop = at + count;
-    octets::decode(&octets[..end], qlen, &mut work[at..stop]);
+    decoding::decode(&octets[..end], qlen, &mut work[at..stop]);
 }
 
 // The value of the polynomial of degree d in the octets, into the third part.

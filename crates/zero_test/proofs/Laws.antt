@@ -19,10 +19,9 @@ use Rattle.definitions.specs.Ring.{modulo}
 use Rattle.definitions.specs.Calls.{IsZeroExit, isZeroAt, isZeroAnswer, isZeroLeaves, isZeroExit}
 use Rattle.definitions.specs.Demand3.{AcceptedSet}
 use Rattle.definitions.proofs.Sums.{every-cong}
-use Rattle.definitions.proofs.Parameters.{Accepted, accepted-set}
+use Rattle.definitions.proofs.Parameters.{Accepted, accepted-set, key-degree-most}
 use Rattle.ring.specs.Work.{part}
 use Rattle.definitions.proofs.Exits.{exit-set, exit-length, exit-refused, exit-accepted}
-use Rattle.definitions.proofs.Parameters.{key-degree-most}
 use Rattle.secrets.specs.Secrets.{Exact, Valued}
 use Rattle.zero_test.specs.Tested.{Tested}
 

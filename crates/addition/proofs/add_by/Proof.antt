@@ -8,7 +8,7 @@ use native.Mathlib.Omega.{arith}
 use lib.ListN.{length, take}
 use Rattle.definitions.specs.Sequences.{joined}
 use Rattle.definitions.specs.Octets.{coefficientAt, encoded}
-use Rattle.octets.proofs.Laws.{place-fits, wide-room}
+use Rattle.definitions.proofs.Octets.{place-fits, wide-room}
 use Rattle.addition.specs.Sums.{coefficientSums}
 use Rattle.addition.proofs.Sums.{coefficientSums-step, judged-below, judged-kept}
 use Rattle.addition.proofs.add_by.Statement.{statement}

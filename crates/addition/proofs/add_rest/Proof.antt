@@ -7,7 +7,7 @@ use native.Mathlib.Nat.{le-of-eq}
 use native.Mathlib.Omega.{arith}
 use lib.ListN.{length, take}
 use Rattle.definitions.specs.Octets.{coefficientAt, encoded}
-use Rattle.octets.proofs.Laws.{place-end, place-fits}
+use Rattle.definitions.proofs.Octets.{place-end, place-fits}
 use Rattle.addition.specs.Sums.{coefficientSums}
 use Rattle.addition.proofs.Sums.{coefficientSums-step, coefficientSums-end, judged-below}
 use Rattle.addition.proofs.add_rest.Statement.{statement}

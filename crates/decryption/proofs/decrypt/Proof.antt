@@ -6,9 +6,8 @@ use borrow.Author.Needs.{needs}
 use lib.ListN.{length, replicate}
 use Rattle.definitions.specs.Parameters.{messageLength}
 use Rattle.definitions.specs.Demand3.{AcceptedSet}
-use Rattle.definitions.proofs.Parameters.{accepted-set}
+use Rattle.definitions.proofs.Parameters.{accepted-set, key-degree-most, mask-degree-most}
 use Rattle.parameters.specs.Answers.{setFrom}
-use Rattle.definitions.proofs.Parameters.{key-degree-most, mask-degree-most}
 use Rattle.secrets.specs.Secrets.{Exact}
 use Rattle.decryption.proofs.Laws.{decrypt-set, decrypt-secret-length, decrypt-ciphertext-length, decrypt-message-length, decrypt-work-length, decrypt-exact, decrypt-decrypted}
 use Rattle.decryption.proofs.decrypt.Statement.{statement}

@@ -4,9 +4,8 @@ use Prim.Native.Nat.{_*_, _≤_, zero-le}
 use native.Mathlib.Nat.{mul-le-mul-right}
 use native.Mathlib.Omega.{arith}
 use borrow.Author.Needs.{needs}
-use Rattle.definitions.proofs.Parameters.{accepted-set, modulus-positive}
+use Rattle.definitions.proofs.Parameters.{accepted-set, modulus-positive, mask-degree-most}
 use Rattle.parameters.specs.Answers.{setFrom}
-use Rattle.definitions.proofs.Parameters.{mask-degree-most}
 use Rattle.mask_products.proofs.Sums.{count-six}
 use Rattle.ciphertext_elements.proofs.Elements.{work-words, modulus-half}
 use Rattle.encryption.proofs.Mask.{mask-lent}

@@ -3,9 +3,8 @@
 use mathlib.Core.Path.{sym, _∙_}
 use borrow.Author.Needs.{needs}
 use Rattle.definitions.specs.Demand3.{AcceptedSet}
-use Rattle.definitions.proofs.Parameters.{accepted-set}
+use Rattle.definitions.proofs.Parameters.{accepted-set, key-degree-most, mask-degree-most}
 use Rattle.parameters.specs.Answers.{setFrom}
-use Rattle.definitions.proofs.Parameters.{key-degree-most, mask-degree-most}
 use Rattle.encryption.proofs.Returns.{encrypt-set, encrypt-public-length, encrypt-message-length, encrypt-ciphertext-length, encrypt-work-length}
 use Rattle.encryption.proofs.encrypt.Statement.{statement}
 use Rattle.encryption.proofs.encrypt.Tie as tie

@@ -8,7 +8,7 @@ use borrow.Author.Needs.{needs}
 use lib.ListN.{length}
 use Rattle.definitions.specs.Octets.{decoded}
 use Rattle.judging.specs.Reading.{readingAs, fitNumber}
-use Rattle.octets.proofs.Laws.{place-end}
+use Rattle.definitions.proofs.Octets.{place-end}
 use Rattle.judging.proofs.Laws.{fitNumber-decoded-next, fitNumber-decoded-large}
 use Rattle.judging.proofs.judge_rest.Statement.{statement}
 use Rattle.judging.proofs.judge_rest.Tie as tie

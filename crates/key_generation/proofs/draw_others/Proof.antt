@@ -5,10 +5,9 @@ use native.Mathlib.Omega.{arith}
 use lib.ListN.{length}
 use borrow.Author.Needs.{needs}
 use Rattle.definitions.specs.Parameters.{workLength}
-use Rattle.definitions.proofs.Parameters.{Accepted, accepted-set, modulus-positive}
+use Rattle.definitions.proofs.Parameters.{Accepted, accepted-set, modulus-positive, key-degree-most}
 use Rattle.definitions.proofs.Monomials.{monomialCount-pos}
 use Rattle.parameters.specs.Answers.{setFrom}
-use Rattle.definitions.proofs.Parameters.{key-degree-most}
 use Rattle.key_generation.proofs.Parts.{elements-most, drawn-room, others-drawn}
 use Rattle.key_generation.proofs.draw_others.Statement.{statement}
 use Rattle.key_generation.proofs.draw_others.Tie as tie

@@ -10,10 +10,9 @@ use Rattle.definitions.specs.Parameters.{monomialCount, secretLength, qlen}
 use Rattle.definitions.specs.Draws.{Drawn}
 use Rattle.definitions.specs.Calls.{keyDraws}
 use Rattle.definitions.specs.Demand3.{AcceptedSet}
-use Rattle.definitions.proofs.Parameters.{accepted-set}
+use Rattle.definitions.proofs.Parameters.{accepted-set, key-degree-most}
 use Rattle.parameters.specs.Answers.{setFrom}
 use Rattle.draws.proofs.Runs.{said-complete, said-exhausted}
-use Rattle.definitions.proofs.Parameters.{key-degree-most}
 use Rattle.key_generation.specs.Keys.{drawnWords, Exact}
 use Rattle.key_generation.proofs.Returns.{keygen-set, keygen-secret-length, keygen-public-length, keygen-work-length, keygen-short, keygen-exhausted, keygen-written, used-room}
 use Rattle.key_generation.proofs.keygen.Statement.{statement}

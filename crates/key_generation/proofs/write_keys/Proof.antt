@@ -6,10 +6,9 @@ use mathlib.Core.Path.{ap, _∙_}
 use lib.ListN.{replicate}
 use borrow.Author.Needs.{needs}
 use Rattle.definitions.specs.Calls.{keyPairOf}
-use Rattle.definitions.proofs.Parameters.{accepted-set}
+use Rattle.definitions.proofs.Parameters.{accepted-set, key-degree-most}
 use Rattle.definitions.proofs.Monomials.{monomialCount-pos}
 use Rattle.parameters.specs.Answers.{setFrom}
-use Rattle.definitions.proofs.Parameters.{key-degree-most}
 use Rattle.key_generation.specs.Keys.{keysOf}
 use Rattle.key_generation.proofs.Writing.{ready-terms, ready-constant, ready-public}
 use Rattle.key_generation.proofs.write_keys.Statement.{statement}

@@ -4,7 +4,7 @@ use Prim.Native.Nat.{ℕ, _+_, _-_, _*_, _≤_, _<_}
 use mathlib.Core.Path.{_≡_, refl}
 use native.Mathlib.Omega.{arith}
 use lib.ListN.{length}
-use Rattle.octets.proofs.Laws.{place-end}
+use Rattle.definitions.proofs.Octets.{place-end}
 use Rattle.packing.specs.Lanes.{laneNumber, groupNumber}
 use Rattle.packing.proofs.Groups.{many-few}
 use Rattle.packing.proofs.Lanes.{collect-step, place-below}

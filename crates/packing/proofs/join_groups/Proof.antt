@@ -8,7 +8,7 @@ use native.Mathlib.Omega.{arith}
 use lib.ListN.{length, take}
 use Rattle.definitions.specs.Sequences.{tabulate, joined}
 use Rattle.definitions.specs.Octets.{encoded}
-use Rattle.octets.proofs.Laws.{place-end}
+use Rattle.definitions.proofs.Octets.{place-end}
 use Rattle.packing.specs.Lanes.{laneNumber}
 use Rattle.packing.proofs.Fields.{take-stored-fields}
 use Rattle.packing.proofs.Groups.{many-narrow}

@@ -6,7 +6,7 @@ use mathlib.Core.List.{List}
 use native.Mathlib.Omega.{arith}
 use lib.ListN.{length, take, drop}
 use Rattle.definitions.specs.Octets.{numberOf}
-use Rattle.octets.proofs.Laws.{place-end, place-fits}
+use Rattle.definitions.proofs.Octets.{place-end, place-fits}
 use Rattle.packing.proofs.Groups.{many-few, many-narrow, put-step}
 use Rattle.unpacking.specs.Lanes.{lanesOf}
 use Rattle.unpacking.proofs.Lanes.{length-lanesOf}

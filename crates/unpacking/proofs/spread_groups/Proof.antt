@@ -5,7 +5,7 @@ use mathlib.Core.Path.{_≡_, refl}
 use native.Mathlib.Nat.{zero-mul}
 use native.Mathlib.Omega.{arith}
 use lib.ListN.{length, take, drop}
-use Rattle.octets.proofs.Laws.{place-end}
+use Rattle.definitions.proofs.Octets.{place-end}
 use Rattle.packing.proofs.Groups.{many-few, many-narrow}
 use Rattle.unpacking.specs.Lanes.{groupsOf}
 use Rattle.unpacking.proofs.Lanes.{groups-step-take, groups-step-drop}

@@ -5,9 +5,8 @@ use mathlib.Core.Path.{_≡_, sym, ap, _∙_}
 use borrow.Author.Needs.{needs}
 use lib.ListN.{replicate}
 use Rattle.definitions.specs.Demand3.{AcceptedSet}
-use Rattle.definitions.proofs.Parameters.{accepted-set}
+use Rattle.definitions.proofs.Parameters.{accepted-set, key-degree-most}
 use Rattle.parameters.specs.Answers.{setFrom}
-use Rattle.definitions.proofs.Parameters.{key-degree-most}
 use Rattle.secrets.specs.Secrets.{Exact}
 use Rattle.zero_test.proofs.Laws.{is-zero-set, is-zero-secret-length, is-zero-public-length, is-zero-work-length, is-zero-exact, is-zero-tested}
 use Rattle.zero_test.proofs.is_zero.Statement.{statement}

@@ -1,0 +1,39 @@
+-- `decoding::wide_number` is right because the first octets of four have the low bits of their number.
+-- Assumes nothing.
+use mathlib.Core.Path.{_≡_, sym}
+use native.Mathlib.Omega.{arith}
+use borrow.Author.Needs.{needs}
+use Rattle.definitions.proofs.Powers.{shl-octets}
+use Rattle.decoding.proofs.Laws.{numberOf-four, octets-weight-pos}
+use Rattle.decoding.proofs.wide_number.Statement.{statement}
+use Rattle.decoding.proofs.wide_number.Tie as tie
+
+four-requires : tie.Need-four-requires
+four-requires c κs = search needs
+
+returns : tie.Need-returns
+returns c =
+    let a = c .before .before .before .args in
+    let e : a .len ≡ 4 = omega arith in
+    rw e (c .before .four .ensures)
+
+mul-result : tie.Need-mul-result
+mul-result c = search needs
+
+cast-result : tie.Need-cast-result
+cast-result c = search needs
+
+shl-result : tie.Need-shl-result
+shl-result c = search needs
+
+rem-result : tie.Need-rem-result
+rem-result c = octets-weight-pos (c .before .before .before .args .len) (omega arith)
+
+returns-2 : tie.Need-returns-2
+returns-2 c =
+    let a = c .before .before .before .args in
+    rw (shl-octets (a .len) 32 (omega arith), c .before .four .ensures)
+    (sym (numberOf-four (a .len) (a .at) (a .octets .now) (λ i h. c .before .before .shared-slice-known .given i .fits) (omega arith) (omega arith)))
+
+pub wide-number-spec : {M : Type 1} → statement M
+wide-number-spec = tie.close (tie.spec four-requires returns mul-result cast-result shl-result rem-result returns-2)
