@@ -142,6 +142,12 @@ pub fn unpack(octets: &[u8], b: u32, words: &mut [u32])
     let from = groups * len;
     let count = packing::least(words.len() - at, size);
     let rest = packing::least(octets.len() - from, len);
-    spread(words, at, count, width, decoding::number(octets, from, rest));
+    spread(
+        words,
+        at,
+        count,
+        width,
+        decoding::number(octets, from, rest),
+    );
     clear_words(words, at + count);
 }
