@@ -70,7 +70,7 @@ fn add_element(
     requires { ⌜ Inputs n qlen q dx dr m (now public) (now work) × (i < monomialCount dx) × InRing q n (part (now work) (7 * n)) ⌝ }
     ensures { λ _. ⌜ Summed n q (λ k. part (now (work .entry)) (7 * n) k + sum (monomialCount dr) (pairTerm n dx dr (flat n qlen (now (public .entry))) (maskIn n (now (work .entry))) m k i)) (now (work .entry)) (now (work .exit)) ⌝ }
 {
-    let count = monomials::count(dr);
+    let count = lengths::monomial_count(dr as u32);
     let mut j = 0;
     while j < count {
         add_pair(public, dx, i, dr, j, m, n, qlen, q, work);
@@ -103,7 +103,7 @@ pub fn product_at(
     ensures { λ _. ⌜ Summed n q (productOf n dx dr (flat n qlen (now (public .entry))) (maskIn n (now (work .entry))) m) (now (work .entry)) (now (work .exit)) ⌝ }
 {
     clear_sum(work, n, q);
-    let count = monomials::count(dx);
+    let count = lengths::monomial_count(dx as u32);
     let mut i = 0;
     while i < count {
         add_element(public, dx, i, dr, m, n, qlen, q, work);

@@ -1,6 +1,7 @@
 // The order of the monomials (01, "Ring, monomials, octets", second paragraph): by falling total degree, then by falling power of x.
-// The list of degree 4 is a table of exponent pairs, and the list of a lower degree is its tail. Contracts cite the definitions'
-// `monomialCount` and `monomialAt`, through specs/Pairs.antt. Nothing is refused: callers keep the degree to 4 and the place to the list.
+// The list of degree 4 is a table of exponent pairs, and the list of a lower degree is its tail. How many a list has is told by
+// `lengths::monomial_count`. Contracts cite the definitions' `monomialCount`, and `monomialAt` through specs/Pairs.antt. Nothing is
+// refused: callers keep the degree to 4 and the place to the list.
 ghost use mathlib.Core.Path.{_≡_};
 ghost use Prim.Native.Nat.{_+_, _≤_, _<_};
 ghost use Rattle.definitions.specs.Parameters.{monomialCount};
@@ -41,14 +42,6 @@ fn start(d: usize) -> usize
     ensures { λ r. ⌜ r + monomialCount d ≡ 15 ⌝ }
 {
     START[d] as usize
-}
-
-// How many monomials have total degree at most d.
-pub fn count(d: usize) -> usize
-    requires { ⌜ d ≤ 4 ⌝ }
-    ensures { λ r. ⌜ r ≡ monomialCount d ⌝ }
-{
-    15 - start(d)
 }
 
 // The monomial at place i of degree d's list.

@@ -57,7 +57,7 @@ pub fn prepare(
     requires { ⌜ Inputs n qlen q d d 0 (now public) (now work) × (monomialCount d * n ≤ length (now keys)) × (monomialCount d * n ≤ length (now diagonal)) ⌝ }
     ensures { λ _. ⌜ Prepared n q d (flat n qlen (now (public .entry))) (maskIn n (now (work .entry))) (now (keys .exit)) (now (diagonal .exit)) × Kept n (now (work .entry)) (now (work .exit)) ⌝ }
 {
-    let count = monomials::count(d);
+    let count = lengths::monomial_count(d as u32);
     let mut i = 0;
     while i < count {
         prepare_element(public, d, i, n, qlen, q, work, keys, diagonal);
@@ -162,7 +162,7 @@ pub fn product_at(
     ensures { λ _. ⌜ Summed n q (productOf n d d (keyIn n (now (keys .entry))) (maskIn n (now (work .entry))) m) (now (work .entry)) (now (work .exit)) ⌝ }
 {
     mask_products::clear_sum(work, n, q);
-    let count = monomials::count(d);
+    let count = lengths::monomial_count(d as u32);
     let mut i = 0;
     while i < count {
         add_row(d, i, m, n, q, work, keys, diagonal);

@@ -20,8 +20,11 @@ Inv-loop public dx i dr m n qlen q work₀ count j₀ work j =
 abbrev μ-loop : tie.MeasureT-loop
 μ-loop public dx i dr m n qlen q work₀ count j₀ work j = count - j
 
-count-requires : tie.Need-count-requires Inv-loop μ-loop
-count-requires c κs = omega (arith, c .before .before .pre .0 .mask-degree)
+cast-monomial-count : tie.Need-cast-monomial-count Inv-loop μ-loop
+cast-monomial-count c = omega (arith, c .before .before .pre .0 .mask-degree)
+
+monomial-count-requires : tie.Need-monomial-count-requires Inv-loop μ-loop
+monomial-count-requires c κs = omega (arith, c .before .before .pre .0 .mask-degree)
 
 loop-holds : tie.Need-loop-holds Inv-loop μ-loop
 loop-holds c =
@@ -32,7 +35,7 @@ add-pair-requires : tie.Need-add-pair-requires Inv-loop μ-loop
 add-pair-requires c κs =
     let s = c .before .before .before .before .before .before in
     let inv = c .before .before .loop .inv .1 in
-    (inputs-kept (s .pre .0) inv, s .pre .1, omega (arith, c .before .before .before .count .ensures), summed-inRing (s .pre .0 .modulus-least) inv)
+    (inputs-kept (s .pre .0) inv, s .pre .1, omega (arith, c .before .before .before .monomial-count .ensures), summed-inRing (s .pre .0 .modulus-least) inv)
 
 add-j : tie.Need-add-j Inv-loop μ-loop
 add-j c = omega arith
@@ -46,7 +49,7 @@ loop-again c =
     let a = s .args in
     let inv = c .before .before .before .before .before .loop .inv .1 in
     let j = c .before .before .before .before .before .loop .j in
-    let few : j < 6 = omega (arith, count-six (a .dr) (s .pre .0 .mask-degree), c .before .before .before .before .before .before .count .ensures) in
+    let few : j < 6 = omega (arith, count-six (a .dr) (s .pre .0 .mask-degree), c .before .before .before .before .before .before .monomial-count .ensures) in
     let f : ℕ → ℕ → ℕ = λ k. pairTerm (a .n) (a .dx) (a .dr) (flat (a .n) (a .qlen) (a .public .now)) (maskIn (a .n) (a .work .now)) (a .m) k (a .i) in (
       omega arith,
       summed-then _ inv (c .before .before .add-pair .ensures) (λ k l.
@@ -60,7 +63,7 @@ same-length c = c .before .loop .inv .1 .as-long
 
 returns : tie.Need-returns Inv-loop μ-loop
 returns c =
-    let e : c .before .loop .j ≡ monomialCount (c .before .before .before .before .before .args .dr) = omega (arith, c .before .before .count .ensures) in
+    let e : c .before .loop .j ≡ monomialCount (c .before .before .before .before .before .args .dr) = omega (arith, c .before .before .monomial-count .ensures) in
     rw (← e) (c .before .loop .inv .1)
 
 pub add-element-spec : {M : Type 1} → statement M
@@ -69,7 +72,8 @@ add-element-spec =
     (tie.spec
     Inv-loop
     μ-loop
-    count-requires
+    cast-monomial-count
+    monomial-count-requires
     loop-holds
     add-pair-requires
     add-j

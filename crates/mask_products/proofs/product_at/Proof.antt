@@ -23,8 +23,11 @@ clear-sum-requires c κs =
     let g = c .before .before .before .pre in
     (g .sizes .most, g .sizes .room, g .modulus-least)
 
-count-requires : tie.Need-count-requires Inv-loop μ-loop
-count-requires c κs = omega (arith, c .before .before .before .before .before .before .pre .key-degree)
+cast-monomial-count : tie.Need-cast-monomial-count Inv-loop μ-loop
+cast-monomial-count c = omega (arith, c .before .before .before .before .before .before .pre .key-degree)
+
+monomial-count-requires : tie.Need-monomial-count-requires Inv-loop μ-loop
+monomial-count-requires c κs = omega (arith, c .before .before .before .before .before .before .pre .key-degree)
 
 loop-holds : tie.Need-loop-holds Inv-loop μ-loop
 loop-holds c = (omega arith, summed-same (summed-start (c .before .before .before .clear-sum .ensures)) (λ k l. sym (sum-none _)))
@@ -34,7 +37,7 @@ add-element-requires c κs =
     let g = c .before .before .before .before .before .before .before .before .before .before .pre in
     let inv = c .before .before .loop .inv .1 in (
       inputs-kept (inputs-kept g (c .before .before .before .before .before .before .clear-sum .ensures)) inv,
-      omega (arith, c .before .before .before .count .ensures),
+      omega (arith, c .before .before .before .monomial-count .ensures),
       summed-inRing (g .modulus-least) inv,
     )
 
@@ -65,7 +68,7 @@ returns : tie.Need-returns Inv-loop μ-loop
 returns c =
     let s = c .before .before .before .before .before .before .before .before .before in
     let a = s .args in
-    let e : c .before .loop .i ≡ monomialCount (a .dx) = omega (arith, c .before .before .count .ensures) in
+    let e : c .before .loop .i ≡ monomialCount (a .dx) = omega (arith, c .before .before .monomial-count .ensures) in
     summed-product (a .dx) (a .dr) (flat (a .n) (a .qlen) (a .public .now)) (a .m) (s .pre .mask-degree)
     (c .before .before .before .before .before .clear-sum .ensures)
     (rw (← e) (c .before .loop .inv .1))
@@ -77,7 +80,8 @@ product-at-spec =
     Inv-loop
     μ-loop
     clear-sum-requires
-    count-requires
+    cast-monomial-count
+    monomial-count-requires
     loop-holds
     add-element-requires
     add-i

@@ -32,8 +32,11 @@ Inv-loop public d n qlen q work₀ keys₀ diagonal₀ count i₀ work keys diag
 abbrev μ-loop : tie.MeasureT-loop
 μ-loop public d n qlen q work₀ keys₀ diagonal₀ count i₀ work keys diagonal i = count - i
 
-count-requires : tie.Need-count-requires Inv-loop μ-loop
-count-requires c κs = omega (arith, c .before .before .before .before .pre .0 .key-degree)
+cast-monomial-count : tie.Need-cast-monomial-count Inv-loop μ-loop
+cast-monomial-count c = omega (arith, c .before .before .before .before .pre .0 .key-degree)
+
+monomial-count-requires : tie.Need-monomial-count-requires Inv-loop μ-loop
+monomial-count-requires c κs = omega (arith, c .before .before .before .before .pre .0 .key-degree)
 
 loop-holds : tie.Need-loop-holds Inv-loop μ-loop
 loop-holds c = (omega arith, record { same = λ i l. refl; as-long = refl }, refl, refl, (λ j l k b. absurd (not-suc-le-zero l)), (λ j l k b. absurd (not-suc-le-zero l)))
@@ -42,7 +45,7 @@ prepare-element-requires : tie.Need-prepare-element-requires Inv-loop μ-loop
 prepare-element-requires c κs =
     let s = c .before .before .before .before .before .before .before .before .before .before in
     let inv = c .before .before .before .before .loop .inv in
-    let below : c .before .before .before .before .loop .i < monomialCount (s .args .d) = omega (arith, c .before .before .before .before .before .count .ensures) in
+    let below : c .before .before .before .before .loop .i < monomialCount (s .args .d) = omega (arith, c .before .before .before .before .before .monomial-count .ensures) in
     let room = part-room (s .args .n) (c .before .before .before .before .loop .i) (monomialCount (s .args .d)) below in (
       inputs-same (s .pre .0) (inv .1 .as-long) (inv .1 .same),
       below,
@@ -63,7 +66,7 @@ loop-again c =
     let l = c .before .before .before .before .before .before .before .before .before .before .before .loop in
     let inv = l .inv in
     let call = c .before .before .before .before .before .before .prepare-element in
-    let below : l .i < monomialCount (a .d) = omega (arith, c .before .before .before .before .before .before .before .before .before .before .before .before .count .ensures) in
+    let below : l .i < monomialCount (a .d) = omega (arith, c .before .before .before .before .before .before .before .before .before .before .before .before .monomial-count .ensures) in
     let room = part-room (a .n) (l .i) (monomialCount (a .d)) below in
     let few = part-room (a .n) (l .i) 6 (omega (arith, count-six (a .d) (s .pre .0 .key-degree))) in (
       omega arith,
@@ -89,7 +92,7 @@ returns : tie.Need-returns Inv-loop μ-loop
 returns c =
     let s = c .before .before .before .before .before .before .before in
     let inv = c .before .loop .inv in
-    let e : c .before .loop .i ≡ monomialCount (s .args .d) = omega (arith, c .before .before .count .ensures) in (
+    let e : c .before .loop .i ≡ monomialCount (s .args .d) = omega (arith, c .before .before .monomial-count .ensures) in (
       record { keys-room = omega (arith, inv .2, s .pre .1); diagonal-room = omega (arith, inv .3, s .pre .2); elements = rw (← e) (inv .4); squares = rw (← e) (inv .5) },
       inv .1,
     )
@@ -100,7 +103,8 @@ prepare-spec =
     (tie.spec
     Inv-loop
     μ-loop
-    count-requires
+    cast-monomial-count
+    monomial-count-requires
     loop-holds
     prepare-element-requires
     add-i

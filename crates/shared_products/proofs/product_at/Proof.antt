@@ -22,8 +22,11 @@ abbrev μ-loop : tie.MeasureT-loop
 clear-sum-requires : tie.Need-clear-sum-requires Inv-loop μ-loop
 clear-sum-requires c κs = let g = c .before .before .before .before .pre in (g .most, g .room, g .modulus-least)
 
-count-requires : tie.Need-count-requires Inv-loop μ-loop
-count-requires c κs = omega (arith, c .before .before .before .before .before .before .before .pre .degree-most)
+cast-monomial-count : tie.Need-cast-monomial-count Inv-loop μ-loop
+cast-monomial-count c = omega (arith, c .before .before .before .before .before .before .before .pre .degree-most)
+
+monomial-count-requires : tie.Need-monomial-count-requires Inv-loop μ-loop
+monomial-count-requires c κs = omega (arith, c .before .before .before .before .before .before .before .pre .degree-most)
 
 loop-holds : tie.Need-loop-holds Inv-loop μ-loop
 loop-holds c = (omega arith, summed-same (summed-start (c .before .before .before .clear-sum .ensures)) (λ k l. sym (sum-none _)))
@@ -32,7 +35,7 @@ add-row-requires : tie.Need-add-row-requires Inv-loop μ-loop
 add-row-requires c κs =
     let g = c .before .before .before .before .before .before .before .before .before .before .before .pre in
     let inv = c .before .before .loop .inv .1 in
-    (inputs-kept (inputs-kept g (c .before .before .before .before .before .before .clear-sum .ensures)) inv, omega (arith, c .before .before .before .count .ensures), summed-inRing (g .modulus-least) inv)
+    (inputs-kept (inputs-kept g (c .before .before .before .before .before .before .clear-sum .ensures)) inv, omega (arith, c .before .before .before .monomial-count .ensures), summed-inRing (g .modulus-least) inv)
 
 add-i : tie.Need-add-i Inv-loop μ-loop
 add-i c = omega arith
@@ -44,7 +47,7 @@ loop-again : tie.Need-loop-again Inv-loop μ-loop
 loop-again c =
     let s = c .before .before .before .before .before .before .before .before .before .before .before .before .before .before in
     let a = s .args in
-    let below : c .before .before .before .before .before .loop .i < monomialCount (a .d) = omega (arith, c .before .before .before .before .before .before .count .ensures) in
+    let below : c .before .before .before .before .before .loop .i < monomialCount (a .d) = omega (arith, c .before .before .before .before .before .before .monomial-count .ensures) in
     (omega arith, summed-rows-more (a .d) (keyIn (a .n) (a .keys .now)) (a .m) (place-few (s .pre) below) (c .before .before .before .before .before .loop .inv .1) (c .before .before .add-row .ensures))
 
 same-length : tie.Need-same-length Inv-loop μ-loop
@@ -54,7 +57,7 @@ returns : tie.Need-returns Inv-loop μ-loop
 returns c =
     let s = c .before .before .before .before .before .before .before .before .before .before in
     let a = s .args in
-    let e : c .before .loop .i ≡ monomialCount (a .d) = omega (arith, c .before .before .count .ensures) in
+    let e : c .before .loop .i ≡ monomialCount (a .d) = omega (arith, c .before .before .monomial-count .ensures) in
     summed-rows (a .d) (keyIn (a .n) (a .keys .now)) (a .m) (s .pre .degree-most) (c .before .before .before .before .before .clear-sum .ensures) (rw (← e) (c .before .loop .inv .1))
 
 pub product-at-spec : {M : Type 1} → statement M
@@ -64,7 +67,8 @@ product-at-spec =
     Inv-loop
     μ-loop
     clear-sum-requires
-    count-requires
+    cast-monomial-count
+    monomial-count-requires
     loop-holds
     add-row-requires
     add-i
