@@ -4,17 +4,16 @@
 --   reduced-..       the third part after it was taken modulo ℓ: its coefficients, their bound, and the tail test
 --   message-..       what each return of `write_message` leaves
 -- Assumes nothing.
-use Prim.Native.Nat.{ℕ, suc, _+_, _-_, _*_, _/_, _%_, _^_, _≤_, _<_}
+use Prim.Native.Nat.{ℕ, suc, _+_, _-_, _*_, _/_, _^_, _≤_, _<_}
 use mathlib.Core.Path.{_≡_, refl, sym, ap, _∙_, subst}
 use mathlib.Core.Bool.{Bool, true, false, cond, not, _||_}
-use mathlib.Core.List.{List, [], _++_}
+use mathlib.Core.List.{List, []}
 use native.Mathlib.Nat.{mul-le-mul-right, mod-lt}
 use native.Mathlib.Decide.{decLt}
 use native.Mathlib.Omega.{arith}
 use borrow.Author.Tests.{lt-ltb, le-ltb}
 use lib.Dec.{eqb, ltb}
 use lib.ListN.{length, getD, take, drop}
-use lib.Seq.{length-take-le, take-at, drop-at}
 use Rattle.definitions.specs.Sequences.{every, tabulate}
 use Rattle.definitions.specs.Parameters.{Parameters, smallBits, messageLength, workLength}
 use Rattle.definitions.specs.Ring.{Element, modulo}
@@ -26,7 +25,7 @@ use Rattle.definitions.proofs.Refusals.{firstRefusal-applies, firstRefusal-last
 use Rattle.definitions.proofs.Octets.{coefficientsFit-true}
 use Rattle.definitions.proofs.Parameters.{Accepted, range-least, smallBits-least, smallBits-power, message-coefficients}
 use Rattle.ring.specs.Work.{part, written}
-use Rattle.ring.proofs.Work.{part-written}
+use Rattle.ring.proofs.Work.{part-written, written-part}
 use Rattle.decryption.specs.Decrypted.{MessageOf}
 
 either-way : (a b : Bool) → (a ≡ true → b ≡ true) → (b ≡ true → a ≡ true) → a ≡ b
@@ -55,13 +54,6 @@ tail-every n b t mlen m pos e =
               (subst (λ (i : ℕ). eqb (m i) 0 ≡ true) place (every-at (n - t) (λ j. eqb (m (t + j)) 0) h {k = k - t} (omega arith)))
         ]
 
--- the words from an offset on, after they were written
-written-part : (at n : ℕ) (new old : List ℕ) → at ≤ length old → length new ≡ n → take (at + n - at) (drop at (written at new old)) ≡ new
-unfolding written
-written-part at n new old h e =
-    let whole : at + n - at ≡ n = omega arith in
-    rw (whole, drop-at (take at old) (new ++ drop (at + length new) old) at (length-take-le at old h)) (take-at new _ n e)
-
 cond-none : (t : Bool) {x : ℕ} → x ≡ cond t 1 0 → x ≡ 0 → t ≡ false
 cond-none false e z = refl
 cond-none true e z = let n : ⊥ = omega arith in absurd n
@@ -88,7 +80,7 @@ module _ (p : Parameters) (set : Accepted p) (work : List ℕ) (room : length wo
     pub reduced-words : take (at + p .n - at) (drop at new) ≡ tabulate (p .n) m
     reduced-words =
         ap (λ (w : List ℕ). take (at + p .n - at) (drop at w)) reduced
-        ∙ written-part at (p .n) (tabulate (p .n) m) work (omega (arith, inside)) (length-tabulate (p .n) m)
+        ∙ written-part at (p .n) m work (omega (arith, inside))
 
     pub reduced-fits : coefficientsFit (2 ^ b) (take (at + p .n - at) (drop at new)) ≡ true
     unfolding modulo

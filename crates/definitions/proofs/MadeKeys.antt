@@ -91,9 +91,9 @@ drawn-length : (p : Parameters) (random : List ℕ) → keyDraws p random .enoug
 unfolding keyDraws
 drawn-length p random enough = draws-values-length (p .q) ((monomialCount (p .dx) - 1) * p .n) _ enough
 
-drawn-below : (p : Parameters) (random : List ℕ) → AllBelow (p .q) (keyDraws p random .values)
+pub keyDraws-below : (p : Parameters) (random : List ℕ) → AllBelow (p .q) (keyDraws p random .values)
 unfolding keyDraws
-drawn-below p random = draws-values-below (p .q) ((monomialCount (p .dx) - 1) * p .n) _
+keyDraws-below p random = draws-values-below (p .q) ((monomialCount (p .dx) - 1) * p .n) _
 
 drawn-small : (p : Parameters) → Accepted p → (random : List ℕ) → InSmallRing p (secretDrawn p random)
 unfolding secretDrawn
@@ -106,4 +106,4 @@ made-keys p random secretLen publicLen workLen keys given =
     let a : Accepted p = accepted-set p (told .set) in
     subst (λ (k : KeyPair). ZeroOf p (k .public) (k .secret)) (told .made)
     (key-zero p (told .set) (secretDrawn p random) (secretDrawn p (drop (smallLength p) random)) (keyDraws p random .values)
-    (drawn-small p a random) (drawn-small p a (drop (smallLength p) random)) (drawn-length p random (told .enough)) (drawn-below p random))
+    (drawn-small p a random) (drawn-small p a (drop (smallLength p) random)) (drawn-length p random (told .enough)) (keyDraws-below p random))

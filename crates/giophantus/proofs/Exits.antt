@@ -1,14 +1,11 @@
 -- What the limits and the lengths leave, from the answers of the functions behind them.
 -- Assumes nothing.
-use Prim.Native.Nat.{ℕ, zero, suc, _≤_}
-use native.Mathlib.Omega.{arith}
+use Prim.Native.Nat.{ℕ, zero, suc}
 use mathlib.Core.Path.{_≡_, refl, sym, ap, _∙_}
-use mathlib.Core.Logic.{⊎-elim}
 use mathlib.Core.List.{[]}
 use Rattle.definitions.specs.Refusals.{Answer, untouched, accepted, firstRefusal, number, output}
 use Rattle.definitions.specs.Parameters.{Parameters, Limits, Lengths, LimitsExit, LengthsExit, setTests, secretLength, publicLength, messageLength, ciphertextLength, workLength, limitsAnswer, limitsExit, lengthsAnswer, lengthsExit}
 use Rattle.definitions.proofs.Refusals.{answer-untouched, answer-accepted}
-use Rattle.definitions.proofs.Parameters.{Accepted, accepted-set}
 
 pub limits-leave : (p : Parameters) (a : Answer Limits) (old : Limits) → a ≡ limitsAnswer p
     → _≡_ {A = LimitsExit} (record { refusal = number a; limits = output (λ l. l) a old }) (limitsExit p old)
@@ -42,8 +39,3 @@ pub lengths-accepted : (p : Parameters) (old new : Lengths) → firstRefusal (se
 lengths-accepted p old new e same =
     ap (λ (x : Lengths). record { refusal = 0; lengths = x }) same
     ∙ lengths-leave p (accepted (lengthsFor p)) old (sym (unfold lengthsAnswer in answer-accepted (setTests p) [] (lengthsFor p) e (unfold firstRefusal in refl)))
-
-pub degrees : (p : Parameters) → firstRefusal (setTests p) ≡ 0 → (p .dx ≤ 2) × (p .dr ≤ 2)
-degrees p e =
-    let a = accepted-set p e in
-    (⊎-elim (λ x. omega arith) (λ x. omega arith) (a .key-degree), ⊎-elim (λ x. omega arith) (λ x. omega arith) (a .mask-degree))

@@ -10,7 +10,7 @@
 -- Assumes nothing.
 use Prim.Native.Nat.{ℕ, suc, _+_, _-_, _*_, _^_, _≤_, _<_}
 use mathlib.Core.Path.{_≡_, refl, sym, ap, _∙_}
-use mathlib.Core.Bool.{Bool, true, false, _&&_, not}
+use mathlib.Core.Bool.{Bool, true, false, _&&_, not, and-true, and-false, and-assoc}
 use mathlib.Core.List.{List, [], _∷_, _++_, append-assoc, append-nil}
 use native.Mathlib.Nat.{mul-le-mul-left, mul-le-mul-right, le-trans, add-zero}
 use native.Mathlib.Numerals.{add-one}
@@ -29,18 +29,6 @@ use Rattle.definitions.proofs.Sums.{every-cong}
 use Rattle.definitions.proofs.Filling.{tabulate-snoc, tabulate-add}
 use Rattle.judging.specs.Reading.{coefficientAnswer, fitNumber}
 use Rattle.judging.proofs.Judged.{fitNumber-fits}
-
-and-true : (t : Bool) → (t && true) ≡ t
-and-true true = refl
-and-true false = refl
-
-and-false : (t : Bool) → (t && false) ≡ false
-and-false true = refl
-and-false false = refl
-
-and-assoc : (a b c : Bool) → ((a && b) && c) ≡ (a && (b && c))
-and-assoc true b c = refl
-and-assoc false b c = refl
 
 -- ---- lists that fit
 

@@ -20,13 +20,14 @@ use Rattle.definitions.specs.Ring.{Element}
 use Rattle.definitions.specs.Octets.{encoded}
 use Rattle.definitions.specs.Draws.{candidates, draws}
 use Rattle.definitions.specs.Calls.{keyDraws}
-use Rattle.definitions.proofs.Sums.{length-tabulate, tabulate-cong}
+use Rattle.definitions.proofs.Sums.{tabulate-cong}
 use Rattle.definitions.proofs.Filling.{length-borrowed}
 use Rattle.definitions.proofs.Parameters.{Accepted, key-degree-most}
 use Rattle.definitions.proofs.Monomials.{monomialCount-pos}
 use Rattle.draws.specs.Runs.{said, drawnAnswer}
 use Rattle.draws.specs.declared.Run.{Run}
 use Rattle.ring.specs.Work.{part, written}
+use Rattle.ring.proofs.Work.{written-part}
 use Rattle.values.proofs.Stages.{count-most}
 use Rattle.key_generation.specs.Keys.{drawnWords}
 
@@ -92,13 +93,6 @@ module _ (n elements : ℕ) (l zeros : List ℕ) (room : 2 * n + elements * n + 
 pub constant-room : (d n len : ℕ) → n * len ≤ monomialCount d * n * len
 constant-room d n len = let one : 1 * n ≤ monomialCount d * n = mul-le-mul-right n (monomialCount-pos d) in mul-le-mul-right len (omega arith)
 
-written-part : (at n : ℕ) (f : ℕ → ℕ) (l : List ℕ) → at + n ≤ length l → take (at + n - at) (drop at (written at (tabulate n f) l)) ≡ tabulate n f
-unfolding written
-written-part at n f l h =
-    let rest : List ℕ = drop (at + length (tabulate n f)) l in
-    ap (take (at + n - at)) (drop-at (take at l) (tabulate n f ++ rest) at (length-take-le at l (omega arith)))
-    ∙ take-at (tabulate n f) rest (at + n - at) (length-tabulate n f ∙ omega arith)
-
 -- a tail written over
 tail-put : (at : ℕ) (l new : List ℕ) → at ≤ length l → putMid at (length l - at) l new ≡ take at l ++ new
 tail-put at l new h =
@@ -116,5 +110,5 @@ constant-placed n len q public last work new v inside room value negated e =
     ∙ ap (λ (octets : List ℕ). take (length public - n * len) public ++ octets)
     (e ∙ ap (encoded len)
     (ap (λ (w : List ℕ). take (2 * n + n - 2 * n) (drop (2 * n) w)) negated
-    ∙ written-part (2 * n) n _ work room
+    ∙ written-part (2 * n) n _ work (omega arith)
     ∙ tabulate-cong n (λ k l. ap (λ (x : ℕ). (q - x) % q) (value k l))))

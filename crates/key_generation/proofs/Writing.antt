@@ -18,8 +18,7 @@ use Rattle.definitions.specs.Draws.{secretDrawn}
 use Rattle.definitions.specs.Calls.{keyDraws, keyPairOf}
 use Rattle.definitions.proofs.Parameters.{Accepted, accepted-set, modulus-positive, modulus-word, qlen-least, qlen-most, key-degree-most}
 use Rattle.definitions.proofs.Monomials.{monomialCount-pos}
-use Rattle.definitions.proofs.Octets.{AllBelow}
-use Rattle.definitions.proofs.Draws.{draws-values-below}
+use Rattle.definitions.proofs.MadeKeys.{keyDraws-below}
 use Rattle.ring.specs.Work.{part}
 use Rattle.values.specs.Folding.{Sizes, flat}
 use Rattle.key_generation.specs.Keys.{drawnWords, keysOf, Ready, SecretWritten}
@@ -60,10 +59,6 @@ module _ (p : Parameters) (random secret public work : List ℕ) (ready : Ready 
         let room : 2 * p .n + elements * p .n + p .n ≤ 8 * p .n = drawn-room (p .n) elements (elements-most p set) in
         ap length (sym (ready .drawn)) ∙ drawn-length (p .n) elements work (omega (arith, ready .exact .work-length))
 
-    drawn-below : AllBelow (p .q) (keyDraws p random .values)
-    unfolding keyDraws
-    drawn-below = draws-values-below (p .q) ((monomialCount (p .dx) - 1) * p .n) _
-
     degree-least : 0 < p .dx
     degree-least = ⊎-elim (λ e. omega arith) (λ e. omega arith) (set .key-degree)
 
@@ -85,7 +80,7 @@ module _ (p : Parameters) (random secret public work : List ℕ) (ready : Ready 
             omega (arith, set .modulus-most),
           ),
           (
-            (λ m l. rw (terms-are, el) (terms-fit p set (keyDraws p random .values) drawn-sized drawn-below m l)),
+            (λ m l. rw (terms-are, el) (terms-fit p set (keyDraws p random .values) drawn-sized (keyDraws-below p random) m l)),
             (
               (λ k l. rw (written .x k l) (secretDrawn-small p set random k l)),
               (λ k l. rw (written .y k l) (secretDrawn-small p set (drop (smallLength p) random) k l)),
@@ -99,5 +94,5 @@ module _ (p : Parameters) (random secret public work : List ℕ) (ready : Ready 
             → new ≡ keysOf p random .public
         unfolding keysOf keyPairOf
         ready-public e =
-            constant-octets p set (keyDraws p random .values) drawn-sized drawn-below (part words 0) (part words (p .n))
+            constant-octets p set (keyDraws p random .values) drawn-sized (keyDraws-below p random) (part words 0) (part words (p .n))
             (secretDrawn p random) (secretDrawn p (drop (smallLength p) random)) (written .x) (written .y) terms-are (rw el at e)

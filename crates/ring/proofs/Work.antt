@@ -87,6 +87,14 @@ part-written at n f old {k} h l =
     getD-written at (tabulate n f) old h (subst (λ (m : ℕ). k < m) (sym (length-tabulate n f)) l) ∙ getD-tabulate n f 0 l
 
 -- a part that was not written
+-- the words from an offset on, after they were written
+pub written-part : (at n : ℕ) (f : ℕ → ℕ) (old : List ℕ) → at ≤ length old → take (at + n - at) (drop at (written at (tabulate n f) old)) ≡ tabulate n f
+unfolding written
+written-part at n f old h =
+    let whole : at + n - at ≡ n = omega arith in
+    rw (whole, drop-at (take at old) (tabulate n f ++ drop (at + length (tabulate n f)) old) at (length-take-le at old h))
+    (take-at (tabulate n f) _ n (length-tabulate n f))
+
 pub part-apart : (at from j n : ℕ) (f : ℕ → ℕ) (old : List ℕ) {k : ℕ} → j ≤ n → at + n ≤ length old → Apart at from n → k < n → part (written at (tabulate j f) old) from k ≡ part old from k
 part-apart at from j n f old {k} g h apart l =
     let e = length-tabulate j f in

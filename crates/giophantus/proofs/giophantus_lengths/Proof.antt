@@ -2,7 +2,8 @@
 -- Assumes nothing.
 use borrow.Author.Needs.{needs}
 use mathlib.Core.Path.{_≡_, sym, _∙_}
-use Rattle.giophantus.proofs.Exits.{lengths-refused, lengths-accepted, degrees}
+use Rattle.definitions.proofs.Parameters.{accepted-set, key-degree-most, mask-degree-most}
+use Rattle.giophantus.proofs.Exits.{lengths-refused, lengths-accepted}
 use Rattle.giophantus.proofs.giophantus_lengths.Statement.{statement}
 use Rattle.giophantus.proofs.giophantus_lengths.Tie as tie
 
@@ -16,13 +17,15 @@ secret-length-requires : tie.Need-secret-length-requires
 secret-length-requires c κs = search needs
 
 public-length-requires : tie.Need-public-length-requires
-public-length-requires c κs = degrees _ (sym (c .before .before .refusal .ensures) ∙ c .before .if1 .left) .0
+public-length-requires c κs = key-degree-most _ (accepted-set _ (sym (c .before .before .refusal .ensures) ∙ c .before .if1 .left))
 
 message-length-requires : tie.Need-message-length-requires
 message-length-requires c κs = search needs
 
 ciphertext-length-requires : tie.Need-ciphertext-length-requires
-ciphertext-length-requires c κs = degrees _ (sym (c .before .before .before .before .refusal .ensures) ∙ c .before .before .before .if1 .left)
+ciphertext-length-requires c κs =
+    let set = accepted-set _ (sym (c .before .before .before .before .refusal .ensures) ∙ c .before .before .before .if1 .left) in
+    (key-degree-most _ set, mask-degree-most _ set)
 
 work-length-requires : tie.Need-work-length-requires
 work-length-requires c κs = search needs

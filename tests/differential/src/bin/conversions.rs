@@ -16,7 +16,7 @@ use reference::Set;
 const RINGS: [u32; 8] = [2, 3, 7, 8, 9, 64, 1201, 4096];
 
 /// How many coefficients the library takes at once, in one loop or another.
-const BLOCKS: [usize; 3] = [32, 64, 128];
+const BLOCKS: [usize; 5] = [32, 64, 128, 256, 512];
 
 /// The eight calls, each with its refusal of what it is given to convert.
 fn calls() -> impl Iterator<Item = (&'static str, u32)> {
