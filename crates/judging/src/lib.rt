@@ -1,7 +1,7 @@
 // Whether given coefficients fit (01, "Refusal table", number 8): octets and words are judged, and 8 is answered where one is not below the
 // limit. A judge reads several coefficients at a time, returns at the first of these where one is too large, and reads what is left one by
-// one; small words it reads all at once. The contracts cite specs/Reading.antt and the definitions' coefficientAt and decoded. The loop over octets is written once, with
-// qlen as a variable, and called with a constant, so that the compiler makes a loop for each qlen.
+// one; small words it reads all at once. The contracts cite specs/Reading.antt and the definitions' coefficientAt and decoded. The loop over
+// octets is written once, with qlen as a variable, and called with a constant, so that the compiler makes a loop for each qlen.
 use parameters::refusals;
 ghost use mathlib.Core.Path.{_≡_};
 ghost use Prim.Native.Nat.{_+_, _*_, _/_, _^_, _≤_};
