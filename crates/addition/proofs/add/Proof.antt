@@ -14,9 +14,6 @@ use Rattle.addition.proofs.Returns.{Exact, addExit-set, addExit-a-lengt
 use Rattle.addition.proofs.add.Statement.{statement}
 use Rattle.addition.proofs.add.Tie as tie
 
-refusal-requires : tie.Need-refusal-requires
-refusal-requires c κs = search needs
-
 returns : tie.Need-returns
 returns c =
     let a = c .before .before .before .before .before .args in
@@ -58,9 +55,6 @@ exact c =
     }
 
 -- ---- the coefficients
-
-octets-of-coefficient-requires : tie.Need-octets-of-coefficient-requires
-octets-of-coefficient-requires c κs = search needs
 
 qlen-bounds : (c : tie.After-octets-of-coefficient) → (1 ≤ c .octets-of-coefficient .result) × (c .octets-of-coefficient .result ≤ 4)
 qlen-bounds c =
@@ -113,9 +107,6 @@ add-octets-requires c κs =
     rw (c .before .before .before .before .before .octets-of-coefficient .ensures, c .before .before .before .before .before .before .before .before .before .ciphertext-length .ensures, ciphertextLength-count (setFrom (a .p)) (e .set))
     (exact-judged (setFrom (a .p)) (a .a .now) (a .b .now) (a .sum .now) e (a-fits (c .before .before .before)) (b-fits (c .before)))
 
-same-length : tie.Need-same-length
-same-length c = search needs
-
 returns-7 : tie.Need-returns-7
 returns-7 c =
     let a = c .before .before .before .before .before .before .before .before .before .before .before .before .before .before .before .before .before .before .args in
@@ -127,18 +118,18 @@ pub add-spec : {M : Type 1} → statement M
 add-spec =
     tie.close
     (tie.spec
-    refusal-requires
+    (λ c κs. search needs)
     returns
     ciphertext-length-requires
     returns-2
     returns-3
     returns-4
-    octets-of-coefficient-requires
+    (λ c κs. search needs)
     judge-requires
     returns-5
     judge-requires-2
     returns-6
     div-add-octets
     add-octets-requires
-    same-length
+    (λ c. search needs)
     returns-7)

@@ -12,9 +12,6 @@ add-by-requires c κs =
     let e : s .args .qlen ≡ 1 = omega arith in
     rw e at (s .pre)
 
-same-length : tie.Need-same-length
-same-length c = search needs
-
 returns : tie.Need-returns
 returns c =
     let e : c .before .before .before .before .before .before .before .before .args .qlen ≡ 1 = omega arith in
@@ -25,9 +22,6 @@ add-by-requires-2 c κs =
     let s = c .before .before .before .before .before .before in
     let e : s .args .qlen ≡ 2 = omega arith in
     rw e at (s .pre)
-
-same-length-2 : tie.Need-same-length-2
-same-length-2 c = search needs
 
 returns-2 : tie.Need-returns-2
 returns-2 c =
@@ -40,9 +34,6 @@ add-by-requires-3 c κs =
     let e : s .args .qlen ≡ 3 = omega arith in
     rw e at (s .pre)
 
-same-length-3 : tie.Need-same-length-3
-same-length-3 c = search needs
-
 returns-3 : tie.Need-returns-3
 returns-3 c =
     let e : c .before .before .before .before .before .before .before .before .before .before .args .qlen ≡ 3 = omega arith in
@@ -54,9 +45,6 @@ add-by-requires-4 c κs =
     let e : s .args .qlen ≡ 4 = omega arith in
     rw e at (s .pre)
 
-same-length-4 : tie.Need-same-length-4
-same-length-4 c = search needs
-
 returns-4 : tie.Need-returns-4
 returns-4 c =
     let e : c .before .before .before .before .before .before .before .before .before .before .args .qlen ≡ 4 = omega arith in
@@ -67,14 +55,14 @@ add-octets-spec =
     tie.close
     (tie.spec
     add-by-requires
-    same-length
+    (λ c. search needs)
     returns
     add-by-requires-2
-    same-length-2
+    (λ c. search needs)
     returns-2
     add-by-requires-3
-    same-length-3
+    (λ c. search needs)
     returns-3
     add-by-requires-4
-    same-length-4
+    (λ c. search needs)
     returns-4)

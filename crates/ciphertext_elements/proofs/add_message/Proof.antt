@@ -35,27 +35,6 @@ returns c =
     let s = c .before .before .before .before .before in
     summed-no-message (setFrom (s .args .p)) (s .args .message .now) (s .args .m) (λ e. c .if1 .taken (e ∙ sym (c .before .monomial-count .ensures))) (s .pre .3)
 
-cast-n : tie.Need-cast-n
-cast-n c = search needs
-
-mul-from : tie.Need-mul-from
-mul-from c = search needs
-
-add-end : tie.Need-add-end
-add-end c = search needs
-
-bits-requires : tie.Need-bits-requires
-bits-requires c κs = search needs
-
-mul-unpack : tie.Need-mul-unpack
-mul-unpack c = search needs
-
-sub-unpack : tie.Need-sub-unpack
-sub-unpack c = search needs
-
-part-unpack-start : tie.Need-part-unpack-start
-part-unpack-start c = search needs
-
 part-unpack-end : tie.Need-part-unpack-end
 part-unpack-end c =
     let s = c .before .before .before .before .before .before .before in
@@ -63,9 +42,6 @@ part-unpack-end c =
 
 unpack-requires : tie.Need-unpack-requires
 unpack-requires c κs = rw (c .before .bits .ensures) (smallBits-within _ .least, smallBits-within _ .most)
-
-mul-add-scaled : tie.Need-mul-add-scaled
-mul-add-scaled c = search needs
 
 -- the message's coefficients, in the part that was lent
 unpacked-told : (c : tie.After-unpack) → c .unpack .last .1 .1 .0 ≡ unpacked (smallBits (c .before .before .before .before .before .before .before .before .before .args .p .l)) (c .before .before .before .before .before .before .before .before .before .args .p .n) (c .before .before .before .before .before .before .before .before .before .args .message .now)
@@ -85,9 +61,6 @@ add-scaled-requires c κs =
     (borrowed-filled (p .n) (s .args .work .now) (c .before .before .before .unpack .last .1 .1 .0) message (unpacked-told (c .before .before .before)) (length-unpacked _ _ _))
     (modulus-half p set) (s .pre .3) (message-scaled p set (s .args .message .now))
 
-same-length : tie.Need-same-length
-same-length c = search needs
-
 returns-2 : tie.Need-returns-2
 returns-2 c =
     let s = c .before .before .before .before .before .before .before .before .before .before .before .before .before .before .before in
@@ -106,16 +79,16 @@ add-message-spec =
     add-monomial-count
     monomial-count-requires
     returns
-    cast-n
-    mul-from
-    add-end
-    bits-requires
-    mul-unpack
-    sub-unpack
-    part-unpack-start
+    (λ c. search needs)
+    (λ c. search needs)
+    (λ c. search needs)
+    (λ c κs. search needs)
+    (λ c. search needs)
+    (λ c. search needs)
+    (λ c. search needs)
     part-unpack-end
     unpack-requires
-    mul-add-scaled
+    (λ c. search needs)
     add-scaled-requires
-    same-length
+    (λ c. search needs)
     returns-2)

@@ -10,34 +10,10 @@ use Rattle.ciphertext_elements.proofs.Elements.{work-words, length-nois
 use Rattle.ciphertext_elements.proofs.add_noise.Statement.{statement}
 use Rattle.ciphertext_elements.proofs.add_noise.Tie as tie
 
-cast-n : tie.Need-cast-n
-cast-n c = search needs
-
-mul-from : tie.Need-mul-from
-mul-from c = search needs
-
-add-end : tie.Need-add-end
-add-end c = search needs
-
-mul-draw-noise : tie.Need-mul-draw-noise
-mul-draw-noise c = search needs
-
-sub-draw-noise : tie.Need-sub-draw-noise
-sub-draw-noise c = search needs
-
-part-draw-noise-start : tie.Need-part-draw-noise-start
-part-draw-noise-start c = search needs
-
 part-draw-noise-end : tie.Need-part-draw-noise-end
 part-draw-noise-end c =
     let s = c .before .before .before in
     omega (arith, work-words (setFrom (s .args .p)) (s .args .work .now) (s .pre .1))
-
-draw-noise-requires : tie.Need-draw-noise-requires
-draw-noise-requires c κs = search needs
-
-mul-add-scaled : tie.Need-mul-add-scaled
-mul-add-scaled c = search needs
 
 add-scaled-requires : tie.Need-add-scaled-requires
 add-scaled-requires c κs =
@@ -48,9 +24,6 @@ add-scaled-requires c κs =
     filled-requires (p .n) (p .q) (p .l) (s .args .work .now) _ noise (work-words p (s .args .work .now) (s .pre .1)) (length-noise p _)
     (borrowed-filled (p .n) (s .args .work .now) (c .before .before .before .draw-noise .last .1 .1 .1 .0) noise (c .before .before .before .draw-noise .ensures) (length-noise p _))
     (modulus-half p set) (s .pre .3) (noise-scaled p set _)
-
-same-length : tie.Need-same-length
-same-length c = search needs
 
 returns : tie.Need-returns
 returns c =
@@ -65,15 +38,15 @@ pub add-noise-spec : {M : Type 1} → statement M
 add-noise-spec =
     tie.close
     (tie.spec
-    cast-n
-    mul-from
-    add-end
-    mul-draw-noise
-    sub-draw-noise
-    part-draw-noise-start
+    (λ c. search needs)
+    (λ c. search needs)
+    (λ c. search needs)
+    (λ c. search needs)
+    (λ c. search needs)
+    (λ c. search needs)
     part-draw-noise-end
-    draw-noise-requires
-    mul-add-scaled
+    (λ c κs. search needs)
+    (λ c. search needs)
     add-scaled-requires
-    same-length
+    (λ c. search needs)
     returns)

@@ -18,47 +18,11 @@ use Rattle.ciphertext_elements.proofs.Ciphertext.{borrowed-element}
 use Rattle.ciphertext_elements.proofs.encode_element.Statement.{statement}
 use Rattle.ciphertext_elements.proofs.encode_element.Tie as tie
 
-mul-at : tie.Need-mul-at
-mul-at c = search needs
-
-add-stop : tie.Need-add-stop
-add-stop c = search needs
-
 mul-from : tie.Need-mul-from
 mul-from c =
     let few : c .before .before .args .m ≤ 15 = omega arith in
     let most : c .before .before .args .n ≤ 4096 = omega arith in
     omega (arith, mul-le-mul few most)
-
-mul-from-2 : tie.Need-mul-from-2
-mul-from-2 c = search needs
-
-mul-end : tie.Need-mul-end
-mul-end c = search needs
-
-add-end : tie.Need-add-end
-add-end c = search needs
-
-mul-encode : tie.Need-mul-encode
-mul-encode c = search needs
-
-sub-encode : tie.Need-sub-encode
-sub-encode c = search needs
-
-part-encode-start : tie.Need-part-encode-start
-part-encode-start c = search needs
-
-part-encode-end : tie.Need-part-encode-end
-part-encode-end c = search needs
-
-sub-encode-2 : tie.Need-sub-encode-2
-sub-encode-2 c = search needs
-
-part-encode-start-2 : tie.Need-part-encode-start-2
-part-encode-start-2 c = search needs
-
-part-encode-end-2 : tie.Need-part-encode-end-2
-part-encode-end-2 c = search needs
 
 encode-requires : tie.Need-encode-requires
 encode-requires c κs =
@@ -69,9 +33,6 @@ encode-requires c κs =
       length-borrowed (a .m * a .n * a .width) (a .n * a .width) (a .ciphertext .now) (s .pre .5)
           ∙ ap (λ (x : ℕ). x * a .width) (sym (length-borrowed (7 * a .n) (a .n) (a .work .now) (omega arith))),
     )
-
-same-length : tie.Need-same-length
-same-length c = search needs
 
 returns : tie.Need-returns
 returns c =
@@ -88,19 +49,19 @@ pub encode-element-spec : {M : Type 1} → statement M
 encode-element-spec =
     tie.close
     (tie.spec
-    mul-at
-    add-stop
+    (λ c. search needs)
+    (λ c. search needs)
     mul-from
-    mul-from-2
-    mul-end
-    add-end
-    mul-encode
-    sub-encode
-    part-encode-start
-    part-encode-end
-    sub-encode-2
-    part-encode-start-2
-    part-encode-end-2
+    (λ c. search needs)
+    (λ c. search needs)
+    (λ c. search needs)
+    (λ c. search needs)
+    (λ c. search needs)
+    (λ c. search needs)
+    (λ c. search needs)
+    (λ c. search needs)
+    (λ c. search needs)
+    (λ c. search needs)
     encode-requires
-    same-length
+    (λ c. search needs)
     returns)

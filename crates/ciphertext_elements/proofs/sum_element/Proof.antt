@@ -13,9 +13,6 @@ use Rattle.ciphertext_elements.proofs.Ciphertext.{summed-element}
 use Rattle.ciphertext_elements.proofs.sum_element.Statement.{statement}
 use Rattle.ciphertext_elements.proofs.sum_element.Tie as tie
 
-small-length-requires : tie.Need-small-length-requires
-small-length-requires c κs = search needs
-
 mul-at : tie.Need-mul-at
 mul-at c =
     let s = c .before .before .before .before .before .before .before in
@@ -48,9 +45,6 @@ add-message-requires c κs =
     let noise = c .before .before .before .add-noise .ensures in
     (g .set, noise .as-long ∙ product .as-long ∙ g .work-exact, s .pre .1, summed-inRing (modulus-positive _ (ready-set g)) noise)
 
-same-length : tie.Need-same-length
-same-length c = search needs
-
 returns : tie.Need-returns
 returns c =
     let a = c .before .before .before .before .before .before .before .before .before .before .before .before .before .before .before .before .before .before .before .args in
@@ -61,11 +55,11 @@ pub sum-element-spec : {M : Type 1} → statement M
 sum-element-spec =
     tie.close
     (tie.spec
-    small-length-requires
+    (λ c κs. search needs)
     mul-at
     add-at
     product-element-requires
     add-noise-requires
     add-message-requires
-    same-length
+    (λ c. search needs)
     returns)

@@ -10,23 +10,11 @@ use Rattle.ciphertext_elements.proofs.Elements.{ready-set}
 use Rattle.ciphertext_elements.proofs.write_elements.Statement.{statement}
 use Rattle.ciphertext_elements.proofs.write_elements.Tie as tie
 
-write-unshared-requires : tie.Need-write-unshared-requires
-write-unshared-requires c κs = search needs
-
-same-length : tie.Need-same-length
-same-length c = search needs
-
-same-length-2 : tie.Need-same-length-2
-same-length-2 c = search needs
-
 returns : tie.Need-returns
 returns c = search needs
 
 monomial-count-requires : tie.Need-monomial-count-requires
 monomial-count-requires c κs = omega (arith, key-degree-most _ (ready-set (c .before .before .before .before .before .before .before .pre .0)))
-
-cast-words : tie.Need-cast-words
-cast-words c = search needs
 
 mul-words : tie.Need-mul-words
 mul-words c =
@@ -38,35 +26,14 @@ mul-words c =
 write-short-requires : tie.Need-write-short-requires
 write-short-requires c κs = (c .before .before .before .before .before .before .before .before .before .before .before .before .pre .0, c .before .before .before .before .before .before .before .before .before .before .before .before .pre .1, c .before .before .before .before .before .if1 .left, rw (← c .before .before .before .before .monomial-count .ensures) (c .before .before .if2 .taken))
 
-same-length-3 : tie.Need-same-length-3
-same-length-3 c = search needs
-
-same-length-4 : tie.Need-same-length-4
-same-length-4 c = search needs
-
 returns-2 : tie.Need-returns-2
 returns-2 c = search needs
 
 write-long-requires : tie.Need-write-long-requires
 write-long-requires c κs = (c .before .before .before .before .before .before .before .before .before .before .before .before .before .pre .0, c .before .before .before .before .before .before .before .before .before .before .before .before .before .pre .1, c .before .before .before .before .before .before .if1 .left, rw (← c .before .before .before .before .before .monomial-count .ensures) (c .before .before .if3 .taken))
 
-same-length-5 : tie.Need-same-length-5
-same-length-5 c = search needs
-
-same-length-6 : tie.Need-same-length-6
-same-length-6 c = search needs
-
 returns-3 : tie.Need-returns-3
 returns-3 c = search needs
-
-write-unshared-requires-2 : tie.Need-write-unshared-requires-2
-write-unshared-requires-2 c κs = search needs
-
-same-length-7 : tie.Need-same-length-7
-same-length-7 c = search needs
-
-same-length-8 : tie.Need-same-length-8
-same-length-8 c = search needs
 
 returns-4 : tie.Need-returns-4
 returns-4 c = search needs
@@ -75,22 +42,22 @@ pub write-elements-spec : {M : Type 1} → statement M
 write-elements-spec =
     tie.close
     (tie.spec
-    write-unshared-requires
-    same-length
-    same-length-2
+    (λ c κs. search needs)
+    (λ c. search needs)
+    (λ c. search needs)
     returns
     monomial-count-requires
-    cast-words
+    (λ c. search needs)
     mul-words
     write-short-requires
-    same-length-3
-    same-length-4
+    (λ c. search needs)
+    (λ c. search needs)
     returns-2
     write-long-requires
-    same-length-5
-    same-length-6
+    (λ c. search needs)
+    (λ c. search needs)
     returns-3
-    write-unshared-requires-2
-    same-length-7
-    same-length-8
+    (λ c κs. search needs)
+    (λ c. search needs)
+    (λ c. search needs)
     returns-4)

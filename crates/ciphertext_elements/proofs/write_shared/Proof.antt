@@ -9,15 +9,6 @@ use Rattle.ciphertext_elements.proofs.Sharing.{ready-prepare, shared-pr
 use Rattle.ciphertext_elements.proofs.write_shared.Statement.{statement}
 use Rattle.ciphertext_elements.proofs.write_shared.Tie as tie
 
-cast-n : tie.Need-cast-n
-cast-n c = search needs
-
-octets-of-coefficient-requires : tie.Need-octets-of-coefficient-requires
-octets-of-coefficient-requires c κs = search needs
-
-cast-prepare : tie.Need-cast-prepare
-cast-prepare c = search needs
-
 prepare-requires : tie.Need-prepare-requires
 prepare-requires c κs =
     let s = c .before .before .before .before .before .before .before .before .before .before .before .before .before in
@@ -33,18 +24,6 @@ write-each-requires c κs =
       (λ e. shared-prepared (s .pre .2) (c .before .before .before .before .before .before .before .before .before .before .before .before .before .before .before .octets-of-coefficient .ensures) (s .args .work .now) _ (key-degree-most _ (ready-set g)) p),
     )
 
-same-length : tie.Need-same-length
-same-length c = search needs
-
-same-length-2 : tie.Need-same-length-2
-same-length-2 c = search needs
-
-same-length-3 : tie.Need-same-length-3
-same-length-3 c = search needs
-
-same-length-4 : tie.Need-same-length-4
-same-length-4 c = search needs
-
 returns : tie.Need-returns
 returns c =
     let s = c .before .before .before .before .before .before .before .before .before .before .before .before .before .before .before .before .before .before .before .before .before .before .before .before .before .before .before .before .before in
@@ -56,13 +35,13 @@ pub write-shared-spec : {M : Type 1} → statement M
 write-shared-spec =
     tie.close
     (tie.spec
-    cast-n
-    octets-of-coefficient-requires
-    cast-prepare
+    (λ c. search needs)
+    (λ c κs. search needs)
+    (λ c. search needs)
     prepare-requires
     write-each-requires
-    same-length
-    same-length-2
-    same-length-3
-    same-length-4
+    (λ c. search needs)
+    (λ c. search needs)
+    (λ c. search needs)
+    (λ c. search needs)
     returns)

@@ -12,9 +12,6 @@ use borrow.Author.Needs.{needs}
 use Rattle.conversions.proofs.ciphertext_to_octets.Statement.{statement}
 use Rattle.conversions.proofs.ciphertext_to_octets.Tie as tie
 
-refusal-requires : tie.Need-refusal-requires
-refusal-requires c κs = search needs
-
 returns : tie.Need-returns
 returns c = exit-set (to-tested _ _ _ _) _ (c .before .refusal .result) (c .if1 .taken) (c .before .refusal .ensures)
 
@@ -42,9 +39,6 @@ elements-to-octets-requires c κs =
     let y = mask-degree-most _ (set (c .before .before .before)) in
     (accepted (c .before .before .before), rw (c .before .monomial-count .ensures) (monomialCount-le _ (omega arith)))
 
-same-length : tie.Need-same-length
-same-length c = search needs
-
 returns-2 : tie.Need-returns-2
 returns-2 c = rw (c .before .before .before .before .monomial-count .ensures) at (c .before .before .elements-to-octets .ensures)
 
@@ -52,10 +46,10 @@ pub ciphertext-to-octets-spec : {M : Type 1} → statement M
 ciphertext-to-octets-spec =
     tie.close
     (tie.spec
-    refusal-requires
+    (λ c κs. search needs)
     returns
     add-monomial-count
     monomial-count-requires
     elements-to-octets-requires
-    same-length
+    (λ c. search needs)
     returns-2)

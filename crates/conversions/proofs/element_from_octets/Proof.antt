@@ -5,17 +5,8 @@ use borrow.Author.Needs.{needs}
 use Rattle.conversions.proofs.element_from_octets.Statement.{statement}
 use Rattle.conversions.proofs.element_from_octets.Tie as tie
 
-refusal-requires : tie.Need-refusal-requires
-refusal-requires c κs = search needs
-
 returns : tie.Need-returns
 returns c = exit-set (from-tested _ _ _ _) _ (c .before .refusal .result) (c .if1 .taken) (c .before .refusal .ensures)
-
-elements-from-octets-requires : tie.Need-elements-from-octets-requires
-elements-from-octets-requires c κs = search needs
-
-same-length : tie.Need-same-length
-same-length c = search needs
 
 returns-2 : tie.Need-returns-2
 returns-2 c = search needs
@@ -23,4 +14,4 @@ returns-2 c = search needs
 pub element-from-octets-spec : {M : Type 1} → statement M
 element-from-octets-spec =
     tie.close
-    (tie.spec refusal-requires returns elements-from-octets-requires same-length returns-2)
+    (tie.spec (λ c κs. search needs) returns (λ c κs. search needs) (λ c. search needs) returns-2)

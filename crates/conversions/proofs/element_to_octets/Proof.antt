@@ -5,21 +5,12 @@ use borrow.Author.Needs.{needs}
 use Rattle.conversions.proofs.element_to_octets.Statement.{statement}
 use Rattle.conversions.proofs.element_to_octets.Tie as tie
 
-refusal-requires : tie.Need-refusal-requires
-refusal-requires c κs = search needs
-
 returns : tie.Need-returns
 returns c = exit-set (to-tested _ _ _ _) _ (c .before .refusal .result) (c .if1 .taken) (c .before .refusal .ensures)
-
-elements-to-octets-requires : tie.Need-elements-to-octets-requires
-elements-to-octets-requires c κs = search needs
-
-same-length : tie.Need-same-length
-same-length c = search needs
 
 returns-2 : tie.Need-returns-2
 returns-2 c = search needs
 
 pub element-to-octets-spec : {M : Type 1} → statement M
 element-to-octets-spec =
-    tie.close (tie.spec refusal-requires returns elements-to-octets-requires same-length returns-2)
+    tie.close (tie.spec (λ c κs. search needs) returns (λ c κs. search needs) (λ c. search needs) returns-2)

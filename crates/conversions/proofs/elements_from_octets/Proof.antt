@@ -12,15 +12,9 @@ use borrow.Author.Needs.{needs}
 use Rattle.conversions.proofs.elements_from_octets.Statement.{statement}
 use Rattle.conversions.proofs.elements_from_octets.Tie as tie
 
-elements-length-requires : tie.Need-elements-length-requires
-elements-length-requires c κs = search needs
-
 returns : tie.Need-returns
 returns c =
     exit-first (from-tested _ _ _ _) _ (c .before .before .before .before .pre .0) (λ e. c .if1 .taken (e ∙ sym (c .before .elements-length .ensures)))
-
-cast-if2 : tie.Need-cast-if2
-cast-if2 c = search needs
 
 mul-if2 : tie.Need-mul-if2
 mul-if2 c = let s = c .before .before .before .before .before in record { fits = elements-fit (setFrom (s .args .p)) (s .pre .0) (s .pre .1) }
@@ -28,9 +22,6 @@ mul-if2 c = let s = c .before .before .before .before .before in record { fits =
 returns-2 : tie.Need-returns-2
 returns-2 c =
     exit-second (from-tested _ _ _ _) _ (c .before .before .before .before .before .before .pre .0) (c .before .before .if1 .left ∙ c .before .before .before .elements-length .ensures) (c .if2 .taken)
-
-octets-of-coefficient-requires : tie.Need-octets-of-coefficient-requires
-octets-of-coefficient-requires c κs = search needs
 
 judge-requires : tie.Need-judge-requires
 judge-requires c κs =
@@ -56,9 +47,6 @@ decode-requires c κs =
           (c .before .before .before .before .before .before .if1 .left ∙ c .before .before .before .before .before .before .before .elements-length .ensures)),
     )
 
-same-length : tie.Need-same-length
-same-length c = search needs
-
 returns-4 : tie.Need-returns-4
 unfolding decodedElements
 returns-4 c =
@@ -76,14 +64,14 @@ pub elements-from-octets-spec : {M : Type 1} → statement M
 elements-from-octets-spec =
     tie.close
     (tie.spec
-    elements-length-requires
+    (λ c κs. search needs)
     returns
-    cast-if2
+    (λ c. search needs)
     mul-if2
     returns-2
-    octets-of-coefficient-requires
+    (λ c κs. search needs)
     judge-requires
     returns-3
     decode-requires
-    same-length
+    (λ c. search needs)
     returns-4)

@@ -11,33 +11,21 @@ use borrow.Author.Needs.{needs}
 use Rattle.conversions.proofs.elements_to_octets.Statement.{statement}
 use Rattle.conversions.proofs.elements_to_octets.Tie as tie
 
-cast-if1 : tie.Need-cast-if1
-cast-if1 c = search needs
-
 mul-if1 : tie.Need-mul-if1
 mul-if1 c = let s = c .before .before .before in record { fits = elements-fit (setFrom (s .args .p)) (s .pre .0) (s .pre .1) }
 
 returns : tie.Need-returns
 returns c = exit-first (to-tested _ _ _ _) _ (c .before .before .before .before .pre .0) (c .if1 .taken)
 
-elements-length-requires : tie.Need-elements-length-requires
-elements-length-requires c κs = search needs
-
 returns-2 : tie.Need-returns-2
 returns-2 c =
     exit-second (to-tested _ _ _ _) _ (c .before .before .before .before .before .before .pre .0) (c .before .before .if1 .left) (λ e. c .if2 .taken (e ∙ sym (c .before .elements-length .ensures)))
-
-judge-words-requires : tie.Need-judge-words-requires
-judge-words-requires c κs = search needs
 
 returns-3 : tie.Need-returns-3
 unfolding fitNumber
 returns-3 c =
     exit-refused (to-tested _ _ _ _) _ (c .before .before .before .before .before .before .before .before .pre .0) (c .before .before .before .before .if1 .left) (c .before .before .if2 .left ∙ c .before .before .before .elements-length .ensures)
     (c .before .judge-words .result) (c .if3 .taken) (c .before .judge-words .ensures)
-
-octets-of-coefficient-requires : tie.Need-octets-of-coefficient-requires
-octets-of-coefficient-requires c κs = search needs
 
 encode-requires : tie.Need-encode-requires
 encode-requires c κs =
@@ -49,9 +37,6 @@ encode-requires c κs =
           (elements-octets (setFrom (s .args .p)) (s .pre .0) (s .args .elements) (k .result) (s .args .octets .now) (k .ensures)
           (c .before .before .before .before .if2 .left ∙ c .before .before .before .before .before .elements-length .ensures)),
     )
-
-same-length : tie.Need-same-length
-same-length c = search needs
 
 returns-4 : tie.Need-returns-4
 unfolding fitNumber
@@ -67,14 +52,14 @@ pub elements-to-octets-spec : {M : Type 1} → statement M
 elements-to-octets-spec =
     tie.close
     (tie.spec
-    cast-if1
+    (λ c. search needs)
     mul-if1
     returns
-    elements-length-requires
+    (λ c κs. search needs)
     returns-2
-    judge-words-requires
+    (λ c κs. search needs)
     returns-3
-    octets-of-coefficient-requires
+    (λ c κs. search needs)
     encode-requires
-    same-length
+    (λ c. search needs)
     returns-4)

@@ -12,9 +12,6 @@ use borrow.Author.Needs.{needs}
 use Rattle.conversions.proofs.public_key_from_octets.Statement.{statement}
 use Rattle.conversions.proofs.public_key_from_octets.Tie as tie
 
-refusal-requires : tie.Need-refusal-requires
-refusal-requires c κs = search needs
-
 returns : tie.Need-returns
 returns c = exit-set (from-tested _ _ _ _) _ (c .before .refusal .result) (c .if1 .taken) (c .before .refusal .ensures)
 
@@ -34,9 +31,6 @@ elements-from-octets-requires c κs =
     let x = key-degree-most _ (set (c .before .before)) in
     (accepted (c .before .before), rw (c .before .monomial-count .ensures) (monomialCount-le _ (omega arith)))
 
-same-length : tie.Need-same-length
-same-length c = search needs
-
 returns-2 : tie.Need-returns-2
 returns-2 c = rw (c .before .before .before .before .monomial-count .ensures) at (c .before .before .elements-from-octets .ensures)
 
@@ -44,9 +38,9 @@ pub public-key-from-octets-spec : {M : Type 1} → statement M
 public-key-from-octets-spec =
     tie.close
     (tie.spec
-    refusal-requires
+    (λ c κs. search needs)
     returns
     monomial-count-requires
     elements-from-octets-requires
-    same-length
+    (λ c. search needs)
     returns-2)

@@ -8,23 +8,11 @@ use Rattle.decoding.proofs.Laws.{numberOf-four, octets-weight-pos}
 use Rattle.decoding.proofs.wide_number.Statement.{statement}
 use Rattle.decoding.proofs.wide_number.Tie as tie
 
-four-requires : tie.Need-four-requires
-four-requires c κs = search needs
-
 returns : tie.Need-returns
 returns c =
     let a = c .before .before .before .args in
     let e : a .len ≡ 4 = omega arith in
     rw e (c .before .four .ensures)
-
-mul-result : tie.Need-mul-result
-mul-result c = search needs
-
-cast-result : tie.Need-cast-result
-cast-result c = search needs
-
-shl-result : tie.Need-shl-result
-shl-result c = search needs
 
 rem-result : tie.Need-rem-result
 rem-result c = octets-weight-pos (c .before .before .before .args .len) (omega arith)
@@ -36,4 +24,4 @@ returns-2 c =
     (sym (numberOf-four (a .len) (a .at) (a .octets .now) (λ i h. c .before .before .shared-slice-known .given i .fits) (omega arith) (omega arith)))
 
 pub wide-number-spec : {M : Type 1} → statement M
-wide-number-spec = tie.close (tie.spec four-requires returns mul-result cast-result shl-result rem-result returns-2)
+wide-number-spec = tie.close (tie.spec (λ c κs. search needs) returns (λ c. search needs) (λ c. search needs) (λ c. search needs) rem-result returns-2)

@@ -13,9 +13,6 @@ use Rattle.decryption.proofs.Laws.{decrypt-set, decrypt-secret-length, 
 use Rattle.decryption.proofs.decrypt.Statement.{statement}
 use Rattle.decryption.proofs.decrypt.Tie as tie
 
-refusal-requires : tie.Need-refusal-requires
-refusal-requires c κs = search needs
-
 returns : tie.Need-returns
 returns c =
     let a = c .before .before .before .before .before .before .args in
@@ -25,9 +22,6 @@ accepted : (c : tie.Else1) → AcceptedSet (setFrom (c .before .before .before .
 accepted c = sym (c .before .refusal .ensures) ∙ c .if1 .left
 
 -- ---- the lengths
-
-secret-length-requires : tie.Need-secret-length-requires
-secret-length-requires c κs = search needs
 
 returns-2 : tie.Need-returns-2
 returns-2 c =
@@ -44,16 +38,10 @@ returns-3 c =
     let a = c .before .before .before .before .before .before .before .before .before .before .args in
     decrypt-ciphertext-length (setFrom (a .p)) (a .secret .now) (a .ciphertext .now) (a .message .now) (a .work .now) (accepted (c .before .before .before .before)) (c .before .ciphertext-length .ensures) (c .if3 .taken)
 
-message-length-requires : tie.Need-message-length-requires
-message-length-requires c κs = search needs
-
 returns-4 : tie.Need-returns-4
 returns-4 c =
     let a = c .before .before .before .before .before .before .before .before .before .before .before .before .args in
     decrypt-message-length (setFrom (a .p)) (a .secret .now) (a .ciphertext .now) (a .message .now) (a .work .now) (accepted (c .before .before .before .before .before .before)) (c .before .message-length .ensures) (c .if4 .taken)
-
-work-length-requires : tie.Need-work-length-requires
-work-length-requires c κs = search needs
 
 returns-5 : tie.Need-returns-5
 returns-5 c =
@@ -78,9 +66,6 @@ message-exact c = c .before .before .if4 .left ∙ c .before .before .before .me
 decrypted-requires : tie.Need-decrypted-requires
 decrypted-requires c κs = (exact (c .before .before), message-exact (c .before .before))
 
-cleared-requires : tie.Need-cleared-requires
-cleared-requires c κs = search needs
-
 same-length : tie.Need-same-length
 same-length c = c .before .before .before .before .before .before .before .before .decrypted .kept .1 .1 .1 .0
 
@@ -98,18 +83,18 @@ pub decrypt-spec : {M : Type 1} → statement M
 decrypt-spec =
     tie.close
     (tie.spec
-    refusal-requires
+    (λ c κs. search needs)
     returns
-    secret-length-requires
+    (λ c κs. search needs)
     returns-2
     ciphertext-length-requires
     returns-3
-    message-length-requires
+    (λ c κs. search needs)
     returns-4
-    work-length-requires
+    (λ c κs. search needs)
     returns-5
     decrypted-requires
-    cleared-requires
+    (λ c κs. search needs)
     same-length
     same-length-2
     returns-6)

@@ -7,12 +7,6 @@ use Rattle.decryption.proofs.Laws.{decrypted-refused, decrypted-message
 use Rattle.decryption.proofs.decrypted.Statement.{statement}
 use Rattle.decryption.proofs.decrypted.Tie as tie
 
-add-d : tie.Need-add-d
-add-d c = search needs
-
-cast-d : tie.Need-cast-d
-cast-d c = search needs
-
 value-requires : tie.Need-value-requires
 value-requires c κs = c .before .before .before .before .before .before .pre .0
 
@@ -38,8 +32,8 @@ pub decrypted-spec : {M : Type 1} → statement M
 decrypted-spec =
     tie.close
     (tie.spec
-    add-d
-    cast-d
+    (λ c. search needs)
+    (λ c. search needs)
     value-requires
     same-length
     returns

@@ -16,15 +16,6 @@ use Rattle.decryption.proofs.Tail.{reduced-fits, message-tail, message-
 use Rattle.decryption.proofs.write_message.Statement.{statement}
 use Rattle.decryption.proofs.write_message.Tie as tie
 
-cast-n : tie.Need-cast-n
-cast-n c = search needs
-
-mul-at : tie.Need-mul-at
-mul-at c = search needs
-
-add-end : tie.Need-add-end
-add-end c = search needs
-
 -- the work words hold three parts and more
 room : (n : ℕ) {len : ℕ} → len ≡ 8 * n → 2 * n + n ≤ len
 room n e = omega arith
@@ -34,9 +25,6 @@ unfolding workLength
 reduce-requires c κs =
     let start = c .before .before .before .before in
     (room (start .args .p .n) (start .pre .2), smallBits-power (setFrom (start .args .p)) (accepted-set _ (start .pre .0) .range))
-
-bits-requires : tie.Need-bits-requires
-bits-requires c κs = search needs
 
 div-tail : tie.Need-div-tail
 div-tail c = omega (arith, c .before .bits .ensures, smallBits-within (c .before .before .before .before .before .before .before .before .before .args .p .l))
@@ -59,15 +47,6 @@ unfolding modulo
 returns c =
     let a = c .before .before .before .before .before .before .before .before .before .before .before .before .args in
     message-tail (setFrom (a .p)) (accepted-set _ (c .before .before .before .before .before .before .before .before .before .before .before .before .pre .0)) (a .work .now) (c .before .before .before .before .before .before .before .before .before .before .before .before .pre .2) (c .before .before .before .before .bits .ensures) (c .before .before .before .before .before .before .before .reduce .ensures) (c .before .vanishes .ensures) (a .message .now) (c .if1 .taken)
-
-mul-pack : tie.Need-mul-pack
-mul-pack c = search needs
-
-sub-pack : tie.Need-sub-pack
-sub-pack c = search needs
-
-part-pack-start : tie.Need-part-pack-start
-part-pack-start c = search needs
 
 part-pack-end : tie.Need-part-pack-end
 unfolding workLength
@@ -97,20 +76,20 @@ pub write-message-spec : {M : Type 1} → statement M
 write-message-spec =
     tie.close
     (tie.spec
-    cast-n
-    mul-at
-    add-end
+    (λ c. search needs)
+    (λ c. search needs)
+    (λ c. search needs)
     reduce-requires
-    bits-requires
+    (λ c κs. search needs)
     div-tail
     cast-tail
     add-tail
     vanishes-requires
     same-length
     returns
-    mul-pack
-    sub-pack
-    part-pack-start
+    (λ c. search needs)
+    (λ c. search needs)
+    (λ c. search needs)
     part-pack-end
     pack-requires
     same-length-2

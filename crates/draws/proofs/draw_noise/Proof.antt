@@ -4,15 +4,9 @@ use Rattle.definitions.specs.Draws.{noiseDrawn}
 use Rattle.draws.proofs.draw_noise.Statement.{statement}
 use Rattle.draws.proofs.draw_noise.Tie as tie
 
-draw-small-requires : tie.Need-draw-small-requires
-draw-small-requires c κs = search needs
-
-same-length : tie.Need-same-length
-same-length c = search needs
-
 returns : tie.Need-returns
 unfolding noiseDrawn
 returns c = c .before .before .draw-small .ensures
 
 pub draw-noise-spec : {M : Type 1} → statement M
-draw-noise-spec = tie.close (tie.spec draw-small-requires same-length returns)
+draw-noise-spec = tie.close (tie.spec (λ c κs. search needs) (λ c. search needs) returns)

@@ -4,15 +4,9 @@ use Rattle.definitions.specs.Draws.{secretDrawn}
 use Rattle.draws.proofs.draw_secret.Statement.{statement}
 use Rattle.draws.proofs.draw_secret.Tie as tie
 
-draw-small-requires : tie.Need-draw-small-requires
-draw-small-requires c κs = search needs
-
-same-length : tie.Need-same-length
-same-length c = search needs
-
 returns : tie.Need-returns
 unfolding secretDrawn
 returns c = c .before .before .draw-small .ensures
 
 pub draw-secret-spec : {M : Type 1} → statement M
-draw-secret-spec = tie.close (tie.spec draw-small-requires same-length returns)
+draw-secret-spec = tie.close (tie.spec (λ c κs. search needs) (λ c. search needs) returns)

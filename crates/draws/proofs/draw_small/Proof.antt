@@ -9,29 +9,8 @@ use Rattle.parameters.specs.Answers.{setFrom}
 use Rattle.draws.proofs.draw_small.Statement.{statement}
 use Rattle.draws.proofs.draw_small.Tie as tie
 
-small-length-requires : tie.Need-small-length-requires
-small-length-requires c κs = search needs
-
-add-end : tie.Need-add-end
-add-end c = search needs
-
-sub-unpack : tie.Need-sub-unpack
-sub-unpack c = search needs
-
-part-unpack-start : tie.Need-part-unpack-start
-part-unpack-start c = search needs
-
-part-unpack-end : tie.Need-part-unpack-end
-part-unpack-end c = search needs
-
-bits-requires : tie.Need-bits-requires
-bits-requires c κs = search needs
-
 unpack-requires : tie.Need-unpack-requires
 unpack-requires c κs = rw (c .before .bits .ensures) (smallBits-within _ .least, smallBits-within _ .most)
-
-same-length : tie.Need-same-length
-same-length c = search needs
 
 returns : tie.Need-returns
 returns c =
@@ -45,12 +24,12 @@ pub draw-small-spec : {M : Type 1} → statement M
 draw-small-spec =
     tie.close
     (tie.spec
-    small-length-requires
-    add-end
-    sub-unpack
-    part-unpack-start
-    part-unpack-end
-    bits-requires
+    (λ c κs. search needs)
+    (λ c. search needs)
+    (λ c. search needs)
+    (λ c. search needs)
+    (λ c. search needs)
+    (λ c κs. search needs)
     unpack-requires
-    same-length
+    (λ c. search needs)
     returns)

@@ -6,9 +6,6 @@ use Rattle.draws.proofs.Groups.{bitLength-short}
 use Rattle.draws.proofs.group_mask.Statement.{statement}
 use Rattle.draws.proofs.group_mask.Tie as tie
 
-bit-length-requires : tie.Need-bit-length-requires
-bit-length-requires c κs = search needs
-
 shl-result : tie.Need-shl-result
 shl-result c = rw (c .bit-length .ensures) (bitLength-short (c .before .args .q) (c .before .pre .0) (c .before .pre .1))
 
@@ -19,4 +16,4 @@ returns : tie.Need-returns
 returns c = rw (shl-one _ 32 (shl-result c), c .bit-length .ensures)
 
 pub group-mask-spec : {M : Type 1} → statement M
-group-mask-spec = tie.close (tie.spec bit-length-requires shl-result sub-result returns)
+group-mask-spec = tie.close (tie.spec (λ c κs. search needs) shl-result sub-result returns)

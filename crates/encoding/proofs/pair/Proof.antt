@@ -14,32 +14,11 @@ use Rattle.encoding.proofs.pair.Tie as tie
 second : (c : tie.After-shared-slice-known2) → getD (c .before .before .args .words .now) (c .before .before .args .m + 1) 0 < 4294967296
 second c = c .shared-slice-known2 .given (c .before .before .args .m + 1) .fits
 
-mul-weight : tie.Need-mul-weight
-mul-weight c = search needs
-
-shl-weight : tie.Need-shl-weight
-shl-weight c = search needs
-
-mul-result : tie.Need-mul-result
-mul-result c = search needs
-
-shared-slice-read-result : tie.Need-shared-slice-read-result
-shared-slice-read-result c = search needs
-
 cast-result : tie.Need-cast-result
 cast-result c = record { fits = lt-of-lt-of-le (c .shared-slice-known .given (c .before .args .m) .fits) (lit≤ tt) }
 
 rem-result : tie.Need-rem-result
 rem-result c = pair-weight-pos (c .before .args .qlen) (omega arith)
-
-add-result : tie.Need-add-result
-add-result c = search needs
-
-mul-result-2 : tie.Need-mul-result-2
-mul-result-2 c = search needs
-
-shared-slice-read-result-2 : tie.Need-shared-slice-read-result-2
-shared-slice-read-result-2 c = search needs
 
 cast-result-2 : tie.Need-cast-result-2
 cast-result-2 c = record { fits = lt-of-lt-of-le (second c) (lit≤ tt) }
@@ -61,15 +40,15 @@ pub pair-spec : {M : Type 1} → statement M
 pair-spec =
     tie.close
     (tie.spec
-    mul-weight
-    shl-weight
-    mul-result
-    shared-slice-read-result
+    (λ c. search needs)
+    (λ c. search needs)
+    (λ c. search needs)
+    (λ c. search needs)
     cast-result
     rem-result
-    add-result
-    mul-result-2
-    shared-slice-read-result-2
+    (λ c. search needs)
+    (λ c. search needs)
+    (λ c. search needs)
     cast-result-2
     mul-result-3
     add-result-2

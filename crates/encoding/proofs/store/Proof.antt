@@ -14,32 +14,14 @@ returns c =
     let e : a .len ≡ 0 = omega arith in
     rw e (stored-none (a .at) (a .x) (a .octets .now))
 
-cast-octets : tie.Need-cast-octets
-cast-octets c = search needs
-
-slice-write-octets : tie.Need-slice-write-octets
-slice-write-octets c = search needs
-
-same-length : tie.Need-same-length
-same-length c = search needs
-
 returns-2 : tie.Need-returns-2
 returns-2 c =
     let a = c .before .before .args in
     let e : a .len ≡ 1 = omega arith in
     rw e (stored-one (a .at) (a .x) (a .octets .now) (omega arith))
 
-cast-octets-2 : tie.Need-cast-octets-2
-cast-octets-2 c = search needs
-
-add-octets : tie.Need-add-octets
-add-octets c = search needs
-
 slice-write-octets-2 : tie.Need-slice-write-octets-2
 slice-write-octets-2 c = simp length-set (omega arith)
-
-same-length-2 : tie.Need-same-length-2
-same-length-2 c = search needs
 
 returns-3 : tie.Need-returns-3
 returns-3 c =
@@ -47,17 +29,8 @@ returns-3 c =
     let e : a .len ≡ 2 = omega arith in
     rw e (stored-two (a .at) (a .x) (a .octets .now) (omega arith))
 
-cast-octets-3 : tie.Need-cast-octets-3
-cast-octets-3 c = search needs
-
-add-octets-2 : tie.Need-add-octets-2
-add-octets-2 c = search needs
-
 slice-write-octets-3 : tie.Need-slice-write-octets-3
 slice-write-octets-3 c = simp length-set (omega arith)
-
-same-length-3 : tie.Need-same-length-3
-same-length-3 c = search needs
 
 returns-4 : tie.Need-returns-4
 returns-4 c =
@@ -65,17 +38,8 @@ returns-4 c =
     let e : a .len ≡ 3 = omega arith in
     rw e (stored-three (a .at) (a .x) (a .octets .now) (omega arith))
 
-cast-octets-4 : tie.Need-cast-octets-4
-cast-octets-4 c = search needs
-
-add-octets-3 : tie.Need-add-octets-3
-add-octets-3 c = search needs
-
 slice-write-octets-4 : tie.Need-slice-write-octets-4
 slice-write-octets-4 c = simp length-set (omega arith)
-
-same-length-4 : tie.Need-same-length-4
-same-length-4 c = search needs
 
 returns-5 : tie.Need-returns-5
 returns-5 c =
@@ -88,22 +52,22 @@ store-spec =
     tie.close
     (tie.spec
     returns
-    cast-octets
-    slice-write-octets
-    same-length
+    (λ c. search needs)
+    (λ c. search needs)
+    (λ c. search needs)
     returns-2
-    cast-octets-2
-    add-octets
+    (λ c. search needs)
+    (λ c. search needs)
     slice-write-octets-2
-    same-length-2
+    (λ c. search needs)
     returns-3
-    cast-octets-3
-    add-octets-2
+    (λ c. search needs)
+    (λ c. search needs)
     slice-write-octets-3
-    same-length-3
+    (λ c. search needs)
     returns-4
-    cast-octets-4
-    add-octets-3
+    (λ c. search needs)
+    (λ c. search needs)
     slice-write-octets-4
-    same-length-4
+    (λ c. search needs)
     returns-5)

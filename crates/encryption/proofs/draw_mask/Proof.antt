@@ -17,9 +17,6 @@ monomial-count-requires c κs =
     let s = c .before .before in
     omega (arith, mask-degree-most (setFrom (s .args .p)) (accepted-set _ (s .pre .0)))
 
-cast-end : tie.Need-cast-end
-cast-end c = search needs
-
 -- the mask is at most six parts
 within : (c : tie.After-struct-known) → c .before .monomial-count .result * c .before .before .before .before .args .p .n ≤ 6 * c .before .before .before .before .args .p .n
 within c =
@@ -31,15 +28,6 @@ mul-end c =
     let s = c .before .before .before .before in
     omega (arith, within c, accepted-set (setFrom (s .args .p)) (s .pre .0) .ring-most)
 
-mul-draw-below : tie.Need-mul-draw-below
-mul-draw-below c = search needs
-
-sub-draw-below : tie.Need-sub-draw-below
-sub-draw-below c = search needs
-
-part-draw-below-start : tie.Need-part-draw-below-start
-part-draw-below-start c = search needs
-
 part-draw-below-end : tie.Need-part-draw-below-end
 part-draw-below-end c =
     let s = c .before .before .before .before in
@@ -50,9 +38,6 @@ draw-below-requires c κs =
     let s = c .before .before .before .before .before in
     let set = accepted-set (setFrom (s .args .p)) (s .pre .0) in
     (zero-le, modulus-positive _ set, modulus-half _ set)
-
-same-length : tie.Need-same-length
-same-length c = search needs
 
 returns : tie.Need-returns
 returns c =
@@ -66,12 +51,12 @@ draw-mask-spec =
     tie.close
     (tie.spec
     monomial-count-requires
-    cast-end
+    (λ c. search needs)
     mul-end
-    mul-draw-below
-    sub-draw-below
-    part-draw-below-start
+    (λ c. search needs)
+    (λ c. search needs)
+    (λ c. search needs)
     part-draw-below-end
     draw-below-requires
-    same-length
+    (λ c. search needs)
     returns)

@@ -9,9 +9,6 @@ use Rattle.encryption.proofs.Returns.{encrypt-set, encrypt-public-lengt
 use Rattle.encryption.proofs.encrypt.Statement.{statement}
 use Rattle.encryption.proofs.encrypt.Tie as tie
 
-refusal-requires : tie.Need-refusal-requires
-refusal-requires c κs = search needs
-
 returns : tie.Need-returns
 returns c =
     let s = c .before .before .before .before .before .before .before in
@@ -28,9 +25,6 @@ returns-2 c =
     let s = c .before .before .before .before .before .before .before .before .before in
     encrypt-public-length (setFrom (s .args .p)) (s .args .public .now) (s .args .message .now) (s .args .random .now) (s .args .ciphertext .now) (s .args .used .now) (s .args .work .now) (accepted (c .before .before)) (λ e. c .if2 .taken (e ∙ sym (c .before .public-length .ensures)))
 
-message-length-requires : tie.Need-message-length-requires
-message-length-requires c κs = search needs
-
 returns-3 : tie.Need-returns-3
 returns-3 c =
     let s = c .before .before .before .before .before .before .before .before .before .before .before in
@@ -45,9 +39,6 @@ returns-4 : tie.Need-returns-4
 returns-4 c =
     let s = c .before .before .before .before .before .before .before .before .before .before .before .before .before in
     encrypt-ciphertext-length (setFrom (s .args .p)) (s .args .public .now) (s .args .message .now) (s .args .random .now) (s .args .ciphertext .now) (s .args .used .now) (s .args .work .now) (accepted (c .before .before .before .before .before .before)) (λ e. c .if4 .taken (e ∙ sym (c .before .ciphertext-length .ensures)))
-
-work-length-requires : tie.Need-work-length-requires
-work-length-requires c κs = search needs
 
 returns-5 : tie.Need-returns-5
 returns-5 c =
@@ -64,12 +55,6 @@ encrypt-exact-requires c κs =
       work-exact = c .before .before .before .if5 .left ∙ c .before .before .before .before .work-length .ensures;
     }
 
-same-length : tie.Need-same-length
-same-length c = search needs
-
-same-length-2 : tie.Need-same-length-2
-same-length-2 c = search needs
-
 returns-6 : tie.Need-returns-6
 returns-6 c = c .before .before .before .before .encrypt-exact .ensures
 
@@ -77,17 +62,17 @@ pub encrypt-spec : {M : Type 1} → statement M
 encrypt-spec =
     tie.close
     (tie.spec
-    refusal-requires
+    (λ c κs. search needs)
     returns
     public-length-requires
     returns-2
-    message-length-requires
+    (λ c κs. search needs)
     returns-3
     ciphertext-length-requires
     returns-4
-    work-length-requires
+    (λ c κs. search needs)
     returns-5
     encrypt-exact-requires
-    same-length
-    same-length-2
+    (λ c. search needs)
+    (λ c. search needs)
     returns-6)

@@ -26,9 +26,6 @@ monomial-count-requires c κs =
     let s = c .before .before .before .before .before .before in
     degree-most (setFrom (s .args .p)) (accepted-set _ (s .pre .0 .set))
 
-small-length-requires : tie.Need-small-length-requires
-small-length-requires c κs = search needs
-
 -- the octets of the noise are few
 noise-most : (c : tie.After-small-length) → c .before .monomial-count .result * c .small-length .result ≤ 15 * 4096
 noise-most c =
@@ -49,12 +46,6 @@ add-end c =
     let s = c .before .before .before .before .before .before .before .before in
     omega (arith, noise-most c, mask-within (setFrom (s .args .p)) (s .args .random .now), s .pre .2 .taken, s .good .1 .1 .1 .0 .1)
 
-cleared-requires : tie.Need-cleared-requires
-cleared-requires c κs = search needs
-
-same-length : tie.Need-same-length
-same-length c = search needs
-
 returns : tie.Need-returns
 returns c =
     let s = c .before .before .before .before .before .before .before .before .before .before .before .before .before in
@@ -67,15 +58,6 @@ write-elements-requires c κs =
     let room : s .args .start + monomialCount (degree (setFrom (s .args .p))) * smallLength (setFrom (s .args .p)) ≤ length (s .args .random .now) =
     rw (← c .before .before .before .before .monomial-count .ensures, ← c .before .before .before .small-length .ensures) (c .before .before .if1 .left) in
     (drawn-ready (s .pre .0) (s .pre .1) (s .pre .2) room, s .pre .0 .ciphertext-exact)
-
-cleared-requires-2 : tie.Need-cleared-requires-2
-cleared-requires-2 c κs = search needs
-
-same-length-2 : tie.Need-same-length-2
-same-length-2 c = search needs
-
-same-length-3 : tie.Need-same-length-3
-same-length-3 c = search needs
 
 returns-2 : tie.Need-returns-2
 returns-2 c =
@@ -94,14 +76,14 @@ encrypt-drawn-spec =
     (tie.spec
     add-monomial-count
     monomial-count-requires
-    small-length-requires
+    (λ c κs. search needs)
     mul-end
     add-end
-    cleared-requires
-    same-length
+    (λ c κs. search needs)
+    (λ c. search needs)
     returns
     write-elements-requires
-    cleared-requires-2
-    same-length-2
-    same-length-3
+    (λ c κs. search needs)
+    (λ c. search needs)
+    (λ c. search needs)
     returns-2)

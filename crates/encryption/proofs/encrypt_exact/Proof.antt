@@ -13,18 +13,6 @@ use Rattle.encryption.proofs.Returns.{encrypt-padding, encrypt-coeffici
 use Rattle.encryption.proofs.encrypt_exact.Statement.{statement}
 use Rattle.encryption.proofs.encrypt_exact.Tie as tie
 
-cast-padding : tie.Need-cast-padding
-cast-padding c = search needs
-
-padding-requires : tie.Need-padding-requires
-padding-requires c κs = search needs
-
-cleared-requires : tie.Need-cleared-requires
-cleared-requires c κs = search needs
-
-same-length : tie.Need-same-length
-same-length c = search needs
-
 returns : tie.Need-returns
 returns c =
     let s = c .before .before .before .before .before .before .before .before .before .before .before .before in
@@ -34,19 +22,10 @@ returns c =
 padded : (c : tie.Else1) → paddingClear (c .before .before .before .before .before .before .before .before .args .p .mlen) (c .before .before .before .before .before .before .before .before .args .message .now) ≡ true
 padded c = paddingNumber-passed _ _ (sym (c .before .padding .ensures) ∙ c .if1 .left)
 
-octets-of-coefficient-requires : tie.Need-octets-of-coefficient-requires
-octets-of-coefficient-requires c κs = search needs
-
 judge-requires : tie.Need-judge-requires
 judge-requires c κs =
     let set = accepted-set _ (c .before .before .before .before .before .before .before .before .before .pre .set) in
     rw (c .octets-of-coefficient .ensures) (qlen-least _ (modulus-positive _ set) (modulus-word _ set), qlen-most _)
-
-cleared-requires-2 : tie.Need-cleared-requires-2
-cleared-requires-2 c κs = search needs
-
-same-length-2 : tie.Need-same-length-2
-same-length-2 c = search needs
 
 returns-2 : tie.Need-returns-2
 unfolding publicLength
@@ -67,12 +46,6 @@ encrypt-judged-requires c κs =
       },
     )
 
-same-length-3 : tie.Need-same-length-3
-same-length-3 c = search needs
-
-same-length-4 : tie.Need-same-length-4
-same-length-4 c = search needs
-
 returns-3 : tie.Need-returns-3
 returns-3 c = c .before .before .before .before .encrypt-judged .ensures
 
@@ -80,17 +53,17 @@ pub encrypt-exact-spec : {M : Type 1} → statement M
 encrypt-exact-spec =
     tie.close
     (tie.spec
-    cast-padding
-    padding-requires
-    cleared-requires
-    same-length
+    (λ c. search needs)
+    (λ c κs. search needs)
+    (λ c κs. search needs)
+    (λ c. search needs)
     returns
-    octets-of-coefficient-requires
+    (λ c κs. search needs)
     judge-requires
-    cleared-requires-2
-    same-length-2
+    (λ c κs. search needs)
+    (λ c. search needs)
     returns-2
     encrypt-judged-requires
-    same-length-3
-    same-length-4
+    (λ c. search needs)
+    (λ c. search needs)
     returns-3)

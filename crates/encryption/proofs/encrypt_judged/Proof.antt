@@ -18,18 +18,6 @@ draw-mask-requires c κs =
     let s = c .before .before .before .before .before .before in
     (s .pre .0 .set, s .pre .0 .work-exact)
 
-enum-known-groups : tie.Need-enum-known-groups
-enum-known-groups c = search needs
-
-enum-told : tie.Need-enum-told
-enum-told c = search needs
-
-cleared-requires : tie.Need-cleared-requires
-cleared-requires c κs = search needs
-
-same-length : tie.Need-same-length
-same-length c = search needs
-
 returns : tie.Need-returns
 returns c =
     let s = c .before .before .before .before .before .before .before .before .before .before .before .before .before .before .before in
@@ -37,9 +25,6 @@ returns c =
     encrypt-exhausted (setFrom (s .args .p)) (s .args .public .now) (s .args .message .now) (s .args .random .now) (s .args .ciphertext .now) (s .args .used .now) (s .args .work .now) (s .pre .0) (s .pre .1)
     (c .before .before .cleared .ensures .0, c .before .before .cleared .ensures .1 ∙ ap (λ (n : ℕ). replicate n 0) (run .kept .1 .1 .0))
     (said-exhausted _ _ (c .before .before .before .before .enum-told .given .1) (run .ensures))
-
-octets-of-coefficient-requires : tie.Need-octets-of-coefficient-requires
-octets-of-coefficient-requires c κs = search needs
 
 -- the drawn mask
 drawn : (c : tie.After-octets-of-coefficient) → MaskDrawn (setFrom (c .before .before .before .before .before .before .before .before .before .before .before .before .before .args .p)) (c .before .before .before .before .before .before .before .before .before .before .before .before .before .args .random .now) (c .octets-of-coefficient .result * c .before .before .groups .given .0 .0) (c .before .before .before .before .before .before .draw-mask .last .1 .1 .0)
@@ -67,12 +52,6 @@ encrypt-drawn-requires c κs =
       drawn (c .before .before .before),
     )
 
-same-length-2 : tie.Need-same-length-2
-same-length-2 c = search needs
-
-same-length-3 : tie.Need-same-length-3
-same-length-3 c = search needs
-
 returns-2 : tie.Need-returns-2
 returns-2 c =
     let s = c .before .before .before .before .before .before .before .before .before .before .before .before .before .before .before .before .before .before .before .before .before in
@@ -84,14 +63,14 @@ encrypt-judged-spec =
     tie.close
     (tie.spec
     draw-mask-requires
-    enum-known-groups
-    enum-told
-    cleared-requires
-    same-length
+    (λ c. search needs)
+    (λ c. search needs)
+    (λ c κs. search needs)
+    (λ c. search needs)
     returns
-    octets-of-coefficient-requires
+    (λ c κs. search needs)
     mul-start
     encrypt-drawn-requires
-    same-length-2
-    same-length-3
+    (λ c. search needs)
+    (λ c. search needs)
     returns-2)

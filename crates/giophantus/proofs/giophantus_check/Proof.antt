@@ -21,15 +21,6 @@ set-number p = go (firstRefusal (setTests p))
 answered : (p : Parameters) (r s : Checked) → checkedAs r ≡ setAnswer p → r ≡ s → number (checkedAs s) ≡ firstRefusal (setTests p)
 answered p r s e same = ap (λ (x : Checked). number (checkedAs x)) (sym same) ∙ ap (λ (a : Answer Parameters). number a) e ∙ set-number p
 
-new-requires : tie.Need-new-requires
-new-requires c κs = search needs
-
-enum-told : tie.Need-enum-told
-enum-told c = search needs
-
-enum-known-k : tie.Need-enum-known-k
-enum-known-k c = search needs
-
 returns : tie.Need-returns
 returns c = answered _ _ _ (c .before .before .new .ensures) (c .enum-told .given .1)
 
@@ -37,4 +28,4 @@ returns-2 : tie.Need-returns-2
 returns-2 c = answered _ _ _ (c .before .before .before .new .ensures) (c .before .k .given .1)
 
 pub giophantus-check-spec : {M : Type 1} → statement M
-giophantus-check-spec = tie.close (tie.spec new-requires enum-told enum-known-k returns returns-2)
+giophantus-check-spec = tie.close (tie.spec (λ c κs. search needs) (λ c. search needs) (λ c. search needs) returns returns-2)

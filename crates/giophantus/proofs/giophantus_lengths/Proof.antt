@@ -7,28 +7,16 @@ use Rattle.giophantus.proofs.Exits.{lengths-refused, lengths-accepted}
 use Rattle.giophantus.proofs.giophantus_lengths.Statement.{statement}
 use Rattle.giophantus.proofs.giophantus_lengths.Tie as tie
 
-refusal-requires : tie.Need-refusal-requires
-refusal-requires c κs = search needs
-
 returns : tie.Need-returns
 returns c = lengths-refused _ _ _ (c .before .refusal .ensures) (c .if1 .taken)
 
-secret-length-requires : tie.Need-secret-length-requires
-secret-length-requires c κs = search needs
-
 public-length-requires : tie.Need-public-length-requires
 public-length-requires c κs = key-degree-most _ (accepted-set _ (sym (c .before .before .refusal .ensures) ∙ c .before .if1 .left))
-
-message-length-requires : tie.Need-message-length-requires
-message-length-requires c κs = search needs
 
 ciphertext-length-requires : tie.Need-ciphertext-length-requires
 ciphertext-length-requires c κs =
     let set = accepted-set _ (sym (c .before .before .before .before .refusal .ensures) ∙ c .before .before .before .if1 .left) in
     (key-degree-most _ set, mask-degree-most _ set)
-
-work-length-requires : tie.Need-work-length-requires
-work-length-requires c κs = search needs
 
 returns-2 : tie.Need-returns-2
 returns-2 c =
@@ -46,11 +34,11 @@ pub giophantus-lengths-spec : {M : Type 1} → statement M
 giophantus-lengths-spec =
     tie.close
     (tie.spec
-    refusal-requires
+    (λ c κs. search needs)
     returns
-    secret-length-requires
+    (λ c κs. search needs)
     public-length-requires
-    message-length-requires
+    (λ c κs. search needs)
     ciphertext-length-requires
-    work-length-requires
+    (λ c κs. search needs)
     returns-2)

@@ -7,18 +7,9 @@ use borrow.Author.Needs.{needs}
 use Rattle.judging.proofs.coefficient_at.Statement.{statement}
 use Rattle.judging.proofs.coefficient_at.Tie as tie
 
-mul-number : tie.Need-mul-number
-mul-number c = search needs
-
-number-requires : tie.Need-number-requires
-number-requires c κs = search needs
-
-bounded-requires : tie.Need-bounded-requires
-bounded-requires c κs = search needs
-
 returns : tie.Need-returns
 unfolding coefficientAt
 returns c = c .bounded .ensures ∙ ap (coefficientAnswer (c .before .before .before .args .q)) (c .before .number .ensures)
 
 pub coefficient-at-spec : {M : Type 1} → statement M
-coefficient-at-spec = tie.close (tie.spec mul-number number-requires bounded-requires returns)
+coefficient-at-spec = tie.close (tie.spec (λ c. search needs) (λ c κs. search needs) (λ c κs. search needs) returns)

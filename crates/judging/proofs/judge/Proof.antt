@@ -6,32 +6,20 @@ use borrow.Author.Needs.{needs}
 use Rattle.judging.proofs.judge.Statement.{statement}
 use Rattle.judging.proofs.judge.Tie as tie
 
-judge-by-requires : tie.Need-judge-by-requires
-judge-by-requires c κs = search needs
-
 returns : tie.Need-returns
 returns c =
     let e : c .before .before .before .args .qlen ≡ 1 = omega arith in
     rw e (c .judge-by .ensures)
-
-judge-by-requires-2 : tie.Need-judge-by-requires-2
-judge-by-requires-2 c κs = search needs
 
 returns-2 : tie.Need-returns-2
 returns-2 c =
     let e : c .before .before .before .before .args .qlen ≡ 2 = omega arith in
     rw e (c .judge-by2 .ensures)
 
-judge-by-requires-3 : tie.Need-judge-by-requires-3
-judge-by-requires-3 c κs = search needs
-
 returns-3 : tie.Need-returns-3
 returns-3 c =
     let e : c .before .before .before .before .before .args .qlen ≡ 3 = omega arith in
     rw e (c .judge-by3 .ensures)
-
-judge-by-requires-4 : tie.Need-judge-by-requires-4
-judge-by-requires-4 c κs = search needs
 
 returns-4 : tie.Need-returns-4
 returns-4 c =
@@ -42,11 +30,11 @@ pub judge-spec : {M : Type 1} → statement M
 judge-spec =
     tie.close
     (tie.spec
-    judge-by-requires
+    (λ c κs. search needs)
     returns
-    judge-by-requires-2
+    (λ c κs. search needs)
     returns-2
-    judge-by-requires-3
+    (λ c κs. search needs)
     returns-3
-    judge-by-requires-4
+    (λ c κs. search needs)
     returns-4)

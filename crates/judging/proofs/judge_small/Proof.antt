@@ -6,15 +6,6 @@ use Rattle.judging.specs.Reading.{readingsNumber}
 use Rattle.judging.proofs.judge_small.Statement.{statement}
 use Rattle.judging.proofs.judge_small.Tie as tie
 
-all-small-requires : tie.Need-all-small-requires
-all-small-requires c κs = search needs
-
-enum-told : tie.Need-enum-told
-enum-told c = search needs
-
-enum-told-2 : tie.Need-enum-told-2
-enum-told-2 c = search needs
-
 returns : tie.Need-returns
 returns c = ap readingsNumber (sym (c .enum-told2 .given .1)) ∙ c .before .before .all-small .ensures
 
@@ -22,4 +13,4 @@ returns-2 : tie.Need-returns-2
 returns-2 c = ap readingsNumber (sym (c .enum-told .given .1)) ∙ c .before .before .all-small .ensures
 
 pub judge-small-spec : {M : Type 1} → statement M
-judge-small-spec = tie.close (tie.spec all-small-requires enum-told enum-told-2 returns returns-2)
+judge-small-spec = tie.close (tie.spec (λ c κs. search needs) (λ c. search needs) (λ c. search needs) returns returns-2)

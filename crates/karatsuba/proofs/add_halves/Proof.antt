@@ -11,9 +11,6 @@ use Rattle.karatsuba.proofs.add_halves.Tie as tie
 copy-requires : tie.Need-copy-requires
 copy-requires c κs = (omega arith, omega arith, inr (omega arith))
 
-add-add : tie.Need-add-add
-add-add c = search needs
-
 add-requires : tie.Need-add-requires
 add-requires c κs =
     let copied = c .before .before .before in
@@ -21,17 +18,8 @@ add-requires c κs =
     let a = start .args in
     ((omega arith, omega arith, inr (omega arith), omega arith), copied-ring (a .a) {words = a .words .now} (omega arith) (wrote (omega arith) (copied .copy .ensures)) (start .pre .1 .0))
 
-add-copy : tie.Need-add-copy
-add-copy c = search needs
-
 copy-requires-2 : tie.Need-copy-requires-2
 copy-requires-2 c κs = (omega arith, omega arith, inr (omega arith))
-
-add-add-2 : tie.Need-add-add-2
-add-add-2 c = search needs
-
-add-add-3 : tie.Need-add-add-3
-add-add-3 c = search needs
 
 add-requires-2 : tie.Need-add-requires-2
 add-requires-2 c κs =
@@ -43,9 +31,6 @@ add-requires-2 c κs =
       (omega arith, omega arith, inr (omega arith), omega arith),
       copied-ring (a .b) {words = first .add .last .0} (omega arith) (wrote (omega arith) (copied .copy2 .ensures)) (kept-ring (a .b) (a .words .now) (first .add .last .0) (omega arith) (sum .before) (start .pre .1 .1)),
     )
-
-same-length : tie.Need-same-length
-same-length c = search needs
 
 returns : tie.Need-returns
 returns c =
@@ -61,12 +46,12 @@ add-halves-spec =
     tie.close
     (tie.spec
     copy-requires
-    add-add
+    (λ c. search needs)
     add-requires
-    add-copy
+    (λ c. search needs)
     copy-requires-2
-    add-add-2
-    add-add-3
+    (λ c. search needs)
+    (λ c. search needs)
     add-requires-2
-    same-length
+    (λ c. search needs)
     returns)

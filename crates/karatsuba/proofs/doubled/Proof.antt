@@ -5,12 +5,6 @@ use Rattle.karatsuba.proofs.Steps.{doubled-small, doubled-full}
 use Rattle.karatsuba.proofs.doubled.Statement.{statement}
 use Rattle.karatsuba.proofs.doubled.Tie as tie
 
-sub-if1 : tie.Need-sub-if1
-sub-if1 c = search needs
-
-add-result : tie.Need-add-result
-add-result c = search needs
-
 returns : tie.Need-returns
 returns c = doubled-small (c .if1 .taken)
 
@@ -18,4 +12,4 @@ returns-2 : tie.Need-returns-2
 returns-2 c = doubled-full (c .before .pre .1)
 
 pub doubled-spec : {M : Type 1} → statement M
-doubled-spec = tie.close (tie.spec sub-if1 add-result returns returns-2)
+doubled-spec = tie.close (tie.spec (λ c. search needs) (λ c. search needs) returns returns-2)

@@ -14,9 +14,6 @@ subtract-requires c κs =
     let a = start .args in
     ((omega arith, omega arith, inr (omega arith), omega arith), (start .pre .1 .1, lower-ring (a .at) (a .words .now) (omega arith) (start .pre .1 .0)))
 
-add-subtract : tie.Need-add-subtract
-add-subtract c = search needs
-
 subtract-requires-2 : tie.Need-subtract-requires-2
 subtract-requires-2 c κs =
     let first = c .before .before .before in
@@ -25,9 +22,6 @@ subtract-requires-2 c κs =
     let w = wrote (omega arith) (first .subtract .ensures) in
     let ring = kept-ring (a .at) (a .words .now) (first .subtract .last .0) (omega arith) (w .before) (start .pre .1 .0) in
     ((omega arith, omega arith, inr (omega arith), omega arith), (inside-ring w (λ k l. mod-lt _ (omega arith)), upper-ring (a .at) (a .m) (first .subtract .last .0) (omega arith) ring))
-
-add-add : tie.Need-add-add
-add-add c = search needs
 
 add-requires : tie.Need-add-requires
 add-requires c κs =
@@ -41,9 +35,6 @@ add-requires c κs =
     let ring = kept-ring (a .at) (first .subtract .last .0) (second .subtract2 .last .0) (omega arith) (v .before) once in
     ((omega arith, omega arith, inl (omega arith), omega arith), (upper-ring (a .at) (a .h) (second .subtract2 .last .0) (omega arith) ring, inside-ring v (λ k l. mod-lt _ (omega arith))))
 
-same-length : tie.Need-same-length
-same-length c = search needs
-
 returns : tie.Need-returns
 returns c =
     let third = c .before .before in
@@ -51,4 +42,4 @@ returns c =
     joined (omega arith) (omega arith) (omega arith) (second .before .before .before .before .subtract .ensures) (second .subtract2 .ensures) (third .add .ensures)
 
 pub join-spec : {M : Type 1} → statement M
-join-spec = tie.close (tie.spec subtract-requires add-subtract subtract-requires-2 add-add add-requires same-length returns)
+join-spec = tie.close (tie.spec subtract-requires (λ c. search needs) subtract-requires-2 (λ c. search needs) add-requires (λ c. search needs) returns)

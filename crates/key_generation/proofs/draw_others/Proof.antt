@@ -12,15 +12,6 @@ use Rattle.key_generation.proofs.Parts.{elements-most, drawn-room, othe
 use Rattle.key_generation.proofs.draw_others.Statement.{statement}
 use Rattle.key_generation.proofs.draw_others.Tie as tie
 
-secret-length-requires : tie.Need-secret-length-requires
-secret-length-requires c κs = search needs
-
-cast-n : tie.Need-cast-n
-cast-n c = search needs
-
-mul-at : tie.Need-mul-at
-mul-at c = search needs
-
 monomial-count-requires : tie.Need-monomial-count-requires
 monomial-count-requires c κs = omega (arith, key-degree-most _ (accepted-set _ (c .before .before .before .before .pre .0)))
 
@@ -44,24 +35,12 @@ mul-stop c = omega (arith, inside c)
 add-stop : tie.Need-add-stop
 add-stop c = omega (arith, inside c)
 
-mul-draw-below : tie.Need-mul-draw-below
-mul-draw-below c = search needs
-
-sub-draw-below : tie.Need-sub-draw-below
-sub-draw-below c = search needs
-
-part-draw-below-start : tie.Need-part-draw-below-start
-part-draw-below-start c = search needs
-
 part-draw-below-end : tie.Need-part-draw-below-end
 part-draw-below-end c = omega (arith, inside c)
 
 draw-below-requires : tie.Need-draw-below-requires
 draw-below-requires c κs = let set : Accepted (setFrom (c .before .before .before .before .before .before .args .p)) = accepted-set _ (c .before .before .before .before .before .before .pre .0) in
     (rw (c .before .before .before .secret-length .ensures) (c .before .before .before .before .before .before .pre .1), modulus-positive _ set, omega (arith, set .modulus-most))
-
-same-length : tie.Need-same-length
-same-length c = search needs
 
 returns : tie.Need-returns
 returns c = let a = c .before .before .before .before .before .before .before .before .before .args in
@@ -72,17 +51,17 @@ pub draw-others-spec : {M : Type 1} → statement M
 draw-others-spec =
     tie.close
     (tie.spec
-    secret-length-requires
-    cast-n
-    mul-at
+    (λ c κs. search needs)
+    (λ c. search needs)
+    (λ c. search needs)
     monomial-count-requires
     sub-stop
     mul-stop
     add-stop
-    mul-draw-below
-    sub-draw-below
-    part-draw-below-start
+    (λ c. search needs)
+    (λ c. search needs)
+    (λ c. search needs)
     part-draw-below-end
     draw-below-requires
-    same-length
+    (λ c. search needs)
     returns)

@@ -18,9 +18,6 @@ use Rattle.key_generation.proofs.Returns.{keygen-set, keygen-secret-len
 use Rattle.key_generation.proofs.keygen.Statement.{statement}
 use Rattle.key_generation.proofs.keygen.Tie as tie
 
-refusal-requires : tie.Need-refusal-requires
-refusal-requires c κs = search needs
-
 returns : tie.Need-returns
 returns c = let a = c .before .before .before .before .before .before .args in keygen-set (setFrom (a .p)) (a .random .now) (a .secret .now) (a .public .now) (a .used .now) (a .work .now) (c .before .refusal .ensures) (c .if1 .taken)
 
@@ -28,9 +25,6 @@ accepted : (c : tie.Else1) → AcceptedSet (setFrom (c .before .before .before .
 accepted c = sym (c .before .refusal .ensures) ∙ c .if1 .left
 
 -- ---- the lengths
-
-secret-length-requires : tie.Need-secret-length-requires
-secret-length-requires c κs = search needs
 
 returns-2 : tie.Need-returns-2
 returns-2 c = let a = c .before .before .before .before .before .before .before .before .args in keygen-secret-length (setFrom (a .p)) (a .random .now) (a .secret .now) (a .public .now) (a .used .now) (a .work .now) (accepted (c .before .before)) (c .before .secret-length .ensures) (c .if2 .taken)
@@ -40,9 +34,6 @@ public-length-requires c κs = key-degree-most _ (accepted-set _ (accepted (c .b
 
 returns-3 : tie.Need-returns-3
 returns-3 c = let a = c .before .before .before .before .before .before .before .before .before .before .args in keygen-public-length (setFrom (a .p)) (a .random .now) (a .secret .now) (a .public .now) (a .used .now) (a .work .now) (accepted (c .before .before .before .before)) (c .before .public-length .ensures) (c .if3 .taken)
-
-work-length-requires : tie.Need-work-length-requires
-work-length-requires c κs = search needs
 
 returns-4 : tie.Need-returns-4
 returns-4 c = let a = c .before .before .before .before .before .before .before .before .before .before .before .before .args in keygen-work-length (setFrom (a .p)) (a .random .now) (a .secret .now) (a .public .now) (a .used .now) (a .work .now) (accepted (c .before .before .before .before .before .before)) (c .before .work-length .ensures) (c .if4 .taken)
@@ -58,12 +49,6 @@ exact c =
 
 -- ---- the random octets
 
-cleared-requires : tie.Need-cleared-requires
-cleared-requires c κs = search needs
-
-same-length : tie.Need-same-length
-same-length c = search needs
-
 returns-5 : tie.Need-returns-5
 returns-5 c = let a = c .before .before .before .before .before .before .before .before .before .before .before .before .before .before .before .before .before .args in
     rw (c .before .before .cleared .ensures .0)
@@ -71,21 +56,6 @@ returns-5 c = let a = c .before .before .before .before .before .before .before 
 
 room : (c : tie.Else5) → secretLength (setFrom (c .before .before .before .before .before .before .before .before .before .before .before .before .before .args .p)) ≤ length (c .before .before .before .before .before .before .before .before .before .before .before .before .before .args .random .now)
 room c = rw (c .before .before .before .before .before .before .secret-length .ensures) at (c .if5 .left)
-
-draw-others-requires : tie.Need-draw-others-requires
-draw-others-requires c κs = search needs
-
-enum-known-groups : tie.Need-enum-known-groups
-enum-known-groups c = search needs
-
-enum-told : tie.Need-enum-told
-enum-told c = search needs
-
-cleared-requires-2 : tie.Need-cleared-requires-2
-cleared-requires-2 c κs = search needs
-
-same-length-2 : tie.Need-same-length-2
-same-length-2 c = search needs
 
 returns-6 : tie.Need-returns-6
 returns-6 c = let a = c .before .before .before .before .before .before .before .before .before .before .before .before .before .before .before .before .before .before .before .before .before .before .before .args in
@@ -108,9 +78,6 @@ write-keys-requires c κs = let e = exact (c .before .before .before .before .be
       drawn = sym (ap (λ (d : Drawn). d .values) (drawn (c .before .before .before .before)));
     }
 
-octets-of-coefficient-requires : tie.Need-octets-of-coefficient-requires
-octets-of-coefficient-requires c κs = search needs
-
 used : (c : tie.After-octets-of-coefficient)
     → c .before .before .before .before .before .before .before .before .before .before .before .before .before .before .before .before .before .before .before .before .before .before .before .before .secret-length .result + c .octets-of-coefficient .result * c .before .before .before .before .before .before .before .before .before .before .before .before .groups .given .0 .0
     ≡ secretLength (setFrom (c .before .before .before .before .before .before .before .before .before .before .before .before .before .before .before .before .before .before .before .before .before .before .before .before .before .before .before .before .before .before .before .args .p)) + qlen (c .before .before .before .before .before .before .before .before .before .before .before .before .before .before .before .before .before .before .before .before .before .before .before .before .before .before .before .before .before .before .before .args .p .q) * keyDraws (setFrom (c .before .before .before .before .before .before .before .before .before .before .before .before .before .before .before .before .before .before .before .before .before .before .before .before .before .before .before .before .before .before .before .args .p)) (c .before .before .before .before .before .before .before .before .before .before .before .before .before .before .before .before .before .before .before .before .before .before .before .before .before .before .before .before .before .before .before .args .random .now) .groups
@@ -125,15 +92,6 @@ mul-used c = omega (arith, used-inside c, c .before .before .before .before .bef
 add-used : tie.Need-add-used
 add-used c = omega (arith, used-inside c, c .before .before .before .before .before .before .before .before .before .before .before .before .before .before .before .before .before .before .before .before .before .before .before .before .before .before .before .before .before .before .before .good .1 .0)
 
-same-length-3 : tie.Need-same-length-3
-same-length-3 c = search needs
-
-same-length-4 : tie.Need-same-length-4
-same-length-4 c = search needs
-
-same-length-5 : tie.Need-same-length-5
-same-length-5 c = search needs
-
 returns-7 : tie.Need-returns-7
 returns-7 c = let a = c .before .before .before .before .before .before .before .before .before .before .before .before .before .before .before .before .before .before .before .before .before .before .before .before .before .before .before .before .before .before .before .args in
     keygen-written (setFrom (a .p)) (a .random .now) (a .secret .now) (a .public .now) (a .used .now) (a .work .now) (exact (c .before .before .before .before .before .before .before .before .before .before .before .before .before .before .before .before .before .before .before)) (room (c .before .before .before .before .before .before .before .before .before .before .before .before .before .before .before .before .before .before)) (ap (λ (d : Drawn). d .enough) (drawn (c .before .before .before .before .before .before .before .before .before .before .before .before))) (c .before .before .before .before .before .before .before .before .before .before .before .before .before .before .before .before .draw-others .kept .1 .1 .0) (c .before .before .before .before .before .before .before .write-keys .ensures) (used c)
@@ -142,28 +100,28 @@ pub keygen-spec : {M : Type 1} → statement M
 keygen-spec =
     tie.close
     (tie.spec
-    refusal-requires
+    (λ c κs. search needs)
     returns
-    secret-length-requires
+    (λ c κs. search needs)
     returns-2
     public-length-requires
     returns-3
-    work-length-requires
+    (λ c κs. search needs)
     returns-4
-    cleared-requires
-    same-length
+    (λ c κs. search needs)
+    (λ c. search needs)
     returns-5
-    draw-others-requires
-    enum-known-groups
-    enum-told
-    cleared-requires-2
-    same-length-2
+    (λ c κs. search needs)
+    (λ c. search needs)
+    (λ c. search needs)
+    (λ c κs. search needs)
+    (λ c. search needs)
     returns-6
     write-keys-requires
-    octets-of-coefficient-requires
+    (λ c κs. search needs)
     mul-used
     add-used
-    same-length-3
-    same-length-4
-    same-length-5
+    (λ c. search needs)
+    (λ c. search needs)
+    (λ c. search needs)
     returns-7)

@@ -14,21 +14,12 @@ use Rattle.key_generation.proofs.Parts.{tail-length, constant-room, con
 use Rattle.key_generation.proofs.write_constant.Statement.{statement}
 use Rattle.key_generation.proofs.write_constant.Tie as tie
 
-evaluate-requires : tie.Need-evaluate-requires
-evaluate-requires c κs = search needs
-
 -- the value stands in the third part of as many work words
 inside : (c : tie.After-evaluate) → 2 * c .before .before .before .before .before .args .n + c .before .before .before .before .before .args .n ≤ length (c .evaluate .last .1 .1 .1 .1 .1 .0)
 inside c = omega (arith, c .evaluate .kept .1 .1 .1 .1 .1 .0, c .before .before .before .before .before .pre .0 .0 .room)
 
-mul-at : tie.Need-mul-at
-mul-at c = search needs
-
 negate-requires : tie.Need-negate-requires
 negate-requires c κs = (inside (c .before .before .before), (λ k l. rw (c .before .before .before .evaluate .ensures k l) (mod-lt _ (c .before .before .before .before .before .before .before .before .pre .0 .4))))
-
-add-stop : tie.Need-add-stop
-add-stop c = search needs
 
 mul-from : tie.Need-mul-from
 mul-from c = let sizes = c .before .before .before .before .before .before .before .before .before .before .before .pre .0 .0 in
@@ -41,27 +32,6 @@ room c = omega (arith, constant-room (c .args .d) (c .args .n) (c .args .qlen), 
 sub-from : tie.Need-sub-from
 sub-from c = room (c .before .before .before .before .before .before .before .before .before .before .before)
 
-mul-encode : tie.Need-mul-encode
-mul-encode c = search needs
-
-sub-encode : tie.Need-sub-encode
-sub-encode c = search needs
-
-part-encode-start : tie.Need-part-encode-start
-part-encode-start c = search needs
-
-part-encode-end : tie.Need-part-encode-end
-part-encode-end c = search needs
-
-sub-encode-2 : tie.Need-sub-encode-2
-sub-encode-2 c = search needs
-
-part-encode-start-2 : tie.Need-part-encode-start-2
-part-encode-start-2 c = search needs
-
-part-encode-end-2 : tie.Need-part-encode-end-2
-part-encode-end-2 c = search needs
-
 encode-requires : tie.Need-encode-requires
 encode-requires c κs = let s = c .before .before .before .before .before .before .before .before .before .before .before .before .before .before in
     let at : ℕ = length (s .args .public .now) - s .args .n * s .args .qlen in
@@ -73,12 +43,6 @@ encode-requires c κs = let s = c .before .before .before .before .before .befor
           ∙ ap (λ (m : ℕ). m * s .args .qlen) (sym (length-borrowed (2 * s .args .n) (s .args .n) _ (omega (arith, inside (c .before .before .before .before .before .before .before .before .before), c .before .before .before .before .before .negate .kept .0)))),
     )
 
-same-length : tie.Need-same-length
-same-length c = search needs
-
-same-length-2 : tie.Need-same-length-2
-same-length-2 c = search needs
-
 returns : tie.Need-returns
 returns c = let a = c .before .before .before .before .before .before .before .before .before .before .before .before .before .before .before .before .before .args in
     constant-placed (a .n) (a .qlen) (a .q) (a .public .now) (c .before .before .encode .last .1 .1 .0) (c .before .before .before .before .before .before .before .before .before .before .before .before .evaluate .last .1 .1 .1 .1 .1 .0) (c .before .before .before .before .before .before .before .before .negate .last .0)
@@ -88,20 +52,20 @@ pub write-constant-spec : {M : Type 1} → statement M
 write-constant-spec =
     tie.close
     (tie.spec
-    evaluate-requires
-    mul-at
+    (λ c κs. search needs)
+    (λ c. search needs)
     negate-requires
-    add-stop
+    (λ c. search needs)
     mul-from
     sub-from
-    mul-encode
-    sub-encode
-    part-encode-start
-    part-encode-end
-    sub-encode-2
-    part-encode-start-2
-    part-encode-end-2
+    (λ c. search needs)
+    (λ c. search needs)
+    (λ c. search needs)
+    (λ c. search needs)
+    (λ c. search needs)
+    (λ c. search needs)
+    (λ c. search needs)
     encode-requires
-    same-length
-    same-length-2
+    (λ c. search needs)
+    (λ c. search needs)
     returns)

@@ -14,12 +14,6 @@ use Rattle.key_generation.proofs.Writing.{ready-terms, ready-constant, 
 use Rattle.key_generation.proofs.write_keys.Statement.{statement}
 use Rattle.key_generation.proofs.write_keys.Tie as tie
 
-cast-n : tie.Need-cast-n
-cast-n c = search needs
-
-octets-of-coefficient-requires : tie.Need-octets-of-coefficient-requires
-octets-of-coefficient-requires c κs = search needs
-
 monomial-count-requires : tie.Need-monomial-count-requires
 monomial-count-requires c κs = omega (arith, key-degree-most _ (accepted-set _ (c .before .before .before .before .before .before .pre .exact .set)))
 
@@ -30,28 +24,10 @@ write-terms-requires : tie.Need-write-terms-requires
 write-terms-requires c κs = let a = c .before .before .before .before .before .before .before .before .before .args in
     ready-terms (setFrom (a .p)) (a .random .now) (a .secret .now) (a .public .now) (a .work .now) (c .before .before .before .before .before .before .before .before .before .pre) (c .before .before .monomial-count .ensures) (c .before .before .before .octets-of-coefficient .ensures)
 
-write-secret-requires : tie.Need-write-secret-requires
-write-secret-requires c κs = search needs
-
-cast-write-constant : tie.Need-cast-write-constant
-cast-write-constant c = search needs
-
 write-constant-requires : tie.Need-write-constant-requires
 write-constant-requires c κs = let a = c .before .before .before .before .before .before .before .before .before .before .before .before .before .before .before .before .before .before .before .before .before .before .before .before .args in
     ready-constant (setFrom (a .p)) (a .random .now) (a .secret .now) (a .public .now) (a .work .now) (c .before .before .before .before .before .before .before .before .before .before .before .before .before .before .before .before .before .before .before .before .before .before .before .before .pre) (c .before .before .before .before .before .before .before .before .before .before .before .before .before .before .before .before .before .monomial-count .ensures) (c .before .before .before .before .before .before .before .before .before .before .before .before .before .before .before .before .before .before .octets-of-coefficient .ensures)
     (c .before .before .before .before .before .before .before .before .before .before .before .before .before .before .write-terms .ensures) (c .before .before .before .before .before .before .before .write-secret .ensures) (c .before .before .before .before .before .before .before .before .before .before .before .before .before .before .write-terms .kept .1 .1 .1 .1 .0) (c .before .before .before .before .before .before .before .write-secret .kept .1 .1 .1 .0 ∙ c .before .before .before .before .before .before .before .before .before .before .before .before .before .before .write-terms .kept .0)
-
-clear-requires : tie.Need-clear-requires
-clear-requires c κs = search needs
-
-same-length : tie.Need-same-length
-same-length c = search needs
-
-same-length-2 : tie.Need-same-length-2
-same-length-2 c = search needs
-
-same-length-3 : tie.Need-same-length-3
-same-length-3 c = search needs
 
 returns : tie.Need-returns
 unfolding keysOf keyPairOf
@@ -71,16 +47,16 @@ pub write-keys-spec : {M : Type 1} → statement M
 write-keys-spec =
     tie.close
     (tie.spec
-    cast-n
-    octets-of-coefficient-requires
+    (λ c. search needs)
+    (λ c κs. search needs)
     monomial-count-requires
     sub-elements
     write-terms-requires
-    write-secret-requires
-    cast-write-constant
+    (λ c κs. search needs)
+    (λ c. search needs)
     write-constant-requires
-    clear-requires
-    same-length
-    same-length-2
-    same-length-3
+    (λ c κs. search needs)
+    (λ c. search needs)
+    (λ c. search needs)
+    (λ c. search needs)
     returns)

@@ -15,15 +15,6 @@ use Rattle.key_generation.proofs.Halves.{secret-written}
 use Rattle.key_generation.proofs.write_secret.Statement.{statement}
 use Rattle.key_generation.proofs.write_secret.Tie as tie
 
-cast-n : tie.Need-cast-n
-cast-n c = search needs
-
-add-stop : tie.Need-add-stop
-add-stop c = search needs
-
-small-length-requires : tie.Need-small-length-requires
-small-length-requires c κs = search needs
-
 words : (c : tie.Start) → c .args .p .n + c .args .p .n ≤ length (c .args .work .now)
 unfolding workLength
 words c = omega (arith, c .pre .2)
@@ -62,15 +53,6 @@ words-kept c = length-front (c .before .before .before .before .before .before .
 octets-kept : (c : tie.After-draw-half) → length (c .draw-half .last .1 .1 .1 .1 .0 ++ drop (c .before .before .before .small-length .result) (c .before .before .before .before .before .before .before .before .args .secret .now)) ≡ length (c .before .before .before .before .before .before .before .before .args .secret .now)
 octets-kept c = length-front (c .before .before .before .before .before .before .before .before .args .secret .now) (c .draw-half .last .1 .1 .1 .1 .0) (c .before .before .before .small-length .result) (c .draw-half .kept .1 .1 .1 .1 .0)
 
-mul-draw-half : tie.Need-mul-draw-half
-mul-draw-half c = search needs
-
-sub-draw-half : tie.Need-sub-draw-half
-sub-draw-half c = search needs
-
-part-draw-half-start : tie.Need-part-draw-half-start
-part-draw-half-start c = search needs
-
 part-draw-half-end : tie.Need-part-draw-half-end
 part-draw-half-end c = omega (arith, words-kept (c .before .before .before .before), words (c .before .before .before .before .before .before .before .before .before .before .before .before))
 
@@ -79,9 +61,6 @@ sub-draw-half-2 c = omega (arith, octets-kept (c .before .before .before .before
 
 part-draw-half-start-2 : tie.Need-part-draw-half-start-2
 part-draw-half-start-2 c = omega (arith, octets-kept (c .before .before .before .before .before), octets (c .before .before .before .before .before .before .before .before))
-
-part-draw-half-end-2 : tie.Need-part-draw-half-end-2
-part-draw-half-end-2 c = search needs
 
 draw-half-requires-2 : tie.Need-draw-half-requires-2
 draw-half-requires-2 c κs = let a = c .before .before .before .before .before .before .before .before .before .before .before .before .before .before .args in
@@ -92,12 +71,6 @@ draw-half-requires-2 c κs = let a = c .before .before .before .before .before .
           ∙ omega (arith, octets-kept (c .before .before .before .before .before .before), octets (c .before .before .before .before .before .before .before .before .before), c .before .before .before .before .before .before .before .before .before .small-length .ensures),
     )
 
-same-length : tie.Need-same-length
-same-length c = search needs
-
-same-length-2 : tie.Need-same-length-2
-same-length-2 c = search needs
-
 returns : tie.Need-returns
 returns c = let a = c .before .before .before .before .before .before .before .before .before .before .before .before .before .before .before .before .before .before .before .args in
     secret-written (setFrom (a .p)) (a .random .now) (a .secret .now) (a .work .now) _ _ _ _ (c .before .before .before .before .before .before .before .before .before .before .before .before .before .before .small-length .ensures) (c .before .before .before .before .before .before .before .before .before .before .before .before .before .before .before .before .before .before .before .pre .1) (c .before .before .before .before .before .before .before .before .before .before .before .draw-half .ensures) (c .before .before .before .before .draw-half2 .ensures)
@@ -106,22 +79,22 @@ pub write-secret-spec : {M : Type 1} → statement M
 write-secret-spec =
     tie.close
     (tie.spec
-    cast-n
-    add-stop
-    small-length-requires
+    (λ c. search needs)
+    (λ c. search needs)
+    (λ c κs. search needs)
     slice-relend-prefix-draw-half
     slice-aggregate-draw-half
     slice-relend-prefix-draw-half-2
     slice-aggregate-draw-half-2
     draw-half-requires
-    mul-draw-half
-    sub-draw-half
-    part-draw-half-start
+    (λ c. search needs)
+    (λ c. search needs)
+    (λ c. search needs)
     part-draw-half-end
     sub-draw-half-2
     part-draw-half-start-2
-    part-draw-half-end-2
+    (λ c. search needs)
     draw-half-requires-2
-    same-length
-    same-length-2
+    (λ c. search needs)
+    (λ c. search needs)
     returns)

@@ -21,9 +21,6 @@ zeros c =
     let a = c .before .before .before .before .args in
     c .clear .ensures ∙ ap (λ (m : ℕ). replicate m 0) (length-borrowed (2 * a .n + a .elements * a .n) (a .n) (a .work .now) (inside (c .before .before .before .before)))
 
-mul-at : tie.Need-mul-at
-mul-at c = search needs
-
 mul-stop : tie.Need-mul-stop
 mul-stop c = omega (arith, inside (c .before .before))
 
@@ -36,26 +33,8 @@ add-end c = omega (arith, inside (c .before .before))
 mul-clear : tie.Need-mul-clear
 mul-clear c = omega (arith, inside (c .before .before))
 
-sub-clear : tie.Need-sub-clear
-sub-clear c = search needs
-
-part-clear-start : tie.Need-part-clear-start
-part-clear-start c = search needs
-
 part-clear-end : tie.Need-part-clear-end
 part-clear-end c = omega (arith, inside (c .before .before))
-
-clear-requires : tie.Need-clear-requires
-clear-requires c κs = search needs
-
-mul-encode : tie.Need-mul-encode
-mul-encode c = search needs
-
-sub-encode : tie.Need-sub-encode
-sub-encode c = search needs
-
-part-encode-start : tie.Need-part-encode-start
-part-encode-start c = search needs
 
 part-encode-end : tie.Need-part-encode-end
 part-encode-end c = let a = c .before .before .before .before .before .before .before .args in
@@ -69,12 +48,6 @@ encode-requires c κs = let s = c .before .before .before .before .before .befor
   s .pre .2 ∙ ap (λ (m : ℕ). m * s .args .qlen) (sym (drawn-terms-length (s .args .n) (s .args .elements) (s .args .work .now) _ (inside s) (zeros (c .before .before .before .before .before)))),
 )
 
-same-length : tie.Need-same-length
-same-length c = search needs
-
-same-length-2 : tie.Need-same-length-2
-same-length-2 c = search needs
-
 returns : tie.Need-returns
 returns c = let a = c .before .before .before .before .before .before .before .before .before .before .before .before .args in
     c .before .before .encode .ensures ∙ ap (encoded (a .qlen)) (drawn-terms (a .n) (a .elements) (a .work .now) _ (inside (c .before .before .before .before .before .before .before .before .before .before .before .before)) (zeros (c .before .before .before .before .before .before .before .before)))
@@ -83,20 +56,20 @@ pub write-terms-spec : {M : Type 1} → statement M
 write-terms-spec =
     tie.close
     (tie.spec
-    mul-at
+    (λ c. search needs)
     mul-stop
     add-stop
     add-end
     mul-clear
-    sub-clear
-    part-clear-start
+    (λ c. search needs)
+    (λ c. search needs)
     part-clear-end
-    clear-requires
-    mul-encode
-    sub-encode
-    part-encode-start
+    (λ c κs. search needs)
+    (λ c. search needs)
+    (λ c. search needs)
+    (λ c. search needs)
     part-encode-end
     encode-requires
-    same-length
-    same-length-2
+    (λ c. search needs)
+    (λ c. search needs)
     returns)

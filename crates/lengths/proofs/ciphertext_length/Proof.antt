@@ -10,12 +10,6 @@ use Rattle.lengths.proofs.Bounds.{monomialCount-le}
 use Rattle.lengths.proofs.ciphertext_length.Statement.{statement}
 use Rattle.lengths.proofs.ciphertext_length.Tie as tie
 
-add-monomial-count : tie.Need-add-monomial-count
-add-monomial-count c = search needs
-
-monomial-count-requires : tie.Need-monomial-count-requires
-monomial-count-requires c κs = search needs
-
 elements-length-requires : tie.Need-elements-length-requires
 elements-length-requires c κs =
     let p = c .before .before .args .p in
@@ -26,4 +20,4 @@ unfolding ciphertextLength
 returns c = c .elements-length .ensures ∙ ap (elementsLength (setFrom (c .before .before .before .args .p))) (c .before .monomial-count .ensures)
 
 pub ciphertext-length-spec : {M : Type 1} → statement M
-ciphertext-length-spec = tie.close (tie.spec add-monomial-count monomial-count-requires elements-length-requires returns)
+ciphertext-length-spec = tie.close (tie.spec (λ c. search needs) (λ c κs. search needs) elements-length-requires returns)

@@ -10,17 +10,11 @@ use Rattle.definitions.proofs.Parameters.{qlen-most}
 use Rattle.lengths.proofs.elements_length.Statement.{statement}
 use Rattle.lengths.proofs.elements_length.Tie as tie
 
-cast-result : tie.Need-cast-result
-cast-result c = search needs
-
 mul-result : tie.Need-mul-result
 mul-result c =
     let e : c .before .args .elements ≤ 4096 = omega arith in
     let n : c .before .args .p .n ≤ 4294967295 = omega arith in
     omega (arith, mul-le-mul e n)
-
-octets-of-coefficient-requires : tie.Need-octets-of-coefficient-requires
-octets-of-coefficient-requires c κs = search needs
 
 mul-result-2 : tie.Need-mul-result-2
 mul-result-2 c =
@@ -34,4 +28,4 @@ unfolding elementsLength
 returns c = ap (λ (o : ℕ). c .before .before .args .elements * c .before .before .args .p .n * o) (c .octets-of-coefficient .ensures)
 
 pub elements-length-spec : {M : Type 1} → statement M
-elements-length-spec = tie.close (tie.spec cast-result mul-result octets-of-coefficient-requires mul-result-2 returns)
+elements-length-spec = tie.close (tie.spec (λ c. search needs) mul-result (λ c κs. search needs) mul-result-2 returns)

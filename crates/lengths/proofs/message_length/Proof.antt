@@ -6,15 +6,9 @@ use Rattle.definitions.specs.Parameters.{messageLength}
 use Rattle.lengths.proofs.message_length.Statement.{statement}
 use Rattle.lengths.proofs.message_length.Tie as tie
 
-cast-result : tie.Need-cast-result
-cast-result c = search needs
-
-add-result : tie.Need-add-result
-add-result c = search needs
-
 returns : tie.Need-returns
 unfolding messageLength
 returns c = refl
 
 pub message-length-spec : {M : Type 1} → statement M
-message-length-spec = tie.close (tie.spec cast-result add-result returns)
+message-length-spec = tie.close (tie.spec (λ c. search needs) (λ c. search needs) returns)

@@ -10,12 +10,6 @@ use Rattle.lengths.proofs.Bounds.{monomialCount-le}
 use Rattle.lengths.proofs.monomial_count.Statement.{statement}
 use Rattle.lengths.proofs.monomial_count.Tie as tie
 
-add-result : tie.Need-add-result
-add-result c = search needs
-
-add-result-2 : tie.Need-add-result-2
-add-result-2 c = search needs
-
 mul-result : tie.Need-mul-result
 mul-result c =
     let five : c .args .d + 1 ≤ 5 = omega arith in
@@ -31,4 +25,4 @@ unfolding monomialCount
 returns c = refl
 
 pub monomial-count-spec : {M : Type 1} → statement M
-monomial-count-spec = tie.close (tie.spec add-result add-result-2 mul-result cast-result returns)
+monomial-count-spec = tie.close (tie.spec (λ c. search needs) (λ c. search needs) mul-result cast-result returns)

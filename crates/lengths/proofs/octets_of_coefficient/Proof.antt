@@ -8,9 +8,6 @@ use Rattle.definitions.specs.Parameters.{bitLength, qlen}
 use Rattle.lengths.proofs.octets_of_coefficient.Statement.{statement}
 use Rattle.lengths.proofs.octets_of_coefficient.Tie as tie
 
-bit-length-requires : tie.Need-bit-length-requires
-bit-length-requires c κs = search needs
-
 add-result : tie.Need-add-result
 unfolding bitLength
 add-result c = omega arith
@@ -24,4 +21,4 @@ unfolding qlen
 returns c = ap (λ (x : ℕ). (x + 7) / 8) (c .bit-length .ensures)
 
 pub octets-of-coefficient-spec : {M : Type 1} → statement M
-octets-of-coefficient-spec = tie.close (tie.spec bit-length-requires add-result cast-result returns)
+octets-of-coefficient-spec = tie.close (tie.spec (λ c κs. search needs) add-result cast-result returns)

@@ -9,9 +9,6 @@ use Rattle.lengths.proofs.Bounds.{monomialCount-le}
 use Rattle.lengths.proofs.public_length.Statement.{statement}
 use Rattle.lengths.proofs.public_length.Tie as tie
 
-monomial-count-requires : tie.Need-monomial-count-requires
-monomial-count-requires c κs = search needs
-
 elements-length-requires : tie.Need-elements-length-requires
 elements-length-requires c κs = omega (arith, monomialCount-le (c .before .args .p .dx) (omega arith))
 
@@ -20,4 +17,4 @@ unfolding publicLength
 returns c = c .elements-length .ensures ∙ ap (elementsLength (setFrom (c .before .before .args .p))) (c .before .monomial-count .ensures)
 
 pub public-length-spec : {M : Type 1} → statement M
-public-length-spec = tie.close (tie.spec monomial-count-requires elements-length-requires returns)
+public-length-spec = tie.close (tie.spec (λ c κs. search needs) elements-length-requires returns)

@@ -10,9 +10,6 @@ use Rattle.parameters.proofs.Bounds.{smallBits-within}
 use Rattle.lengths.proofs.secret_length.Statement.{statement}
 use Rattle.lengths.proofs.secret_length.Tie as tie
 
-small-length-requires : tie.Need-small-length-requires
-small-length-requires c κs = search needs
-
 add-result : tie.Need-add-result
 unfolding smallLength
 add-result c =
@@ -25,4 +22,4 @@ unfolding secretLength
 returns c = ap (λ (x : ℕ). x + x) (c .small-length .ensures)
 
 pub secret-length-spec : {M : Type 1} → statement M
-secret-length-spec = tie.close (tie.spec small-length-requires add-result returns)
+secret-length-spec = tie.close (tie.spec (λ c κs. search needs) add-result returns)

@@ -10,15 +10,6 @@ use Rattle.parameters.proofs.Bounds.{smallBits-within}
 use Rattle.lengths.proofs.small_length.Statement.{statement}
 use Rattle.lengths.proofs.small_length.Tie as tie
 
-cast-result : tie.Need-cast-result
-cast-result c = search needs
-
-bits-requires : tie.Need-bits-requires
-bits-requires c κs = search needs
-
-cast-result-2 : tie.Need-cast-result-2
-cast-result-2 c = search needs
-
 mul-result : tie.Need-mul-result
 mul-result c =
     let n : c .before .before .args .p .n ≤ 4294967295 = omega arith in
@@ -36,4 +27,4 @@ unfolding smallLength
 returns c = ap (λ (b : ℕ). (c .before .before .args .p .n * b + 7) / 8) (c .bits .ensures)
 
 pub small-length-spec : {M : Type 1} → statement M
-small-length-spec = tie.close (tie.spec cast-result bits-requires cast-result-2 mul-result add-result returns)
+small-length-spec = tie.close (tie.spec (λ c. search needs) (λ c κs. search needs) (λ c. search needs) mul-result add-result returns)

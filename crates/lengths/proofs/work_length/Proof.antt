@@ -6,15 +6,9 @@ use Rattle.definitions.specs.Parameters.{workLength}
 use Rattle.lengths.proofs.work_length.Statement.{statement}
 use Rattle.lengths.proofs.work_length.Tie as tie
 
-cast-result : tie.Need-cast-result
-cast-result c = search needs
-
-mul-result : tie.Need-mul-result
-mul-result c = search needs
-
 returns : tie.Need-returns
 unfolding workLength
 returns c = refl
 
 pub work-length-spec : {M : Type 1} → statement M
-work-length-spec = tie.close (tie.spec cast-result mul-result returns)
+work-length-spec = tie.close (tie.spec (λ c. search needs) (λ c. search needs) returns)

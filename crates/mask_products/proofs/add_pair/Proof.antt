@@ -59,9 +59,6 @@ multiply-add-requires c κs =
       (key-loaded g (s .pre .1) (load .ensures), mask-loaded g (a .i) (s .pre .2) few (load .ensures)),
     )
 
-same-length : tie.Need-same-length
-same-length c = search needs
-
 returns-2 : tie.Need-returns-2
 returns-2 c =
     let s = c .before .before .before .before .before .before .before .before .before .before .before .before in
@@ -87,5 +84,5 @@ add-pair-spec =
     mul-multiply-add
     mul-multiply-add-2
     multiply-add-requires
-    same-length
+    (λ c. search needs)
     returns-2)

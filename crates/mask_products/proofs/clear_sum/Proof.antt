@@ -19,9 +19,6 @@ mul-from c = omega arith
 add-end : tie.Need-add-end
 add-end c = omega arith
 
-mul-clear : tie.Need-mul-clear
-mul-clear c = search needs
-
 sub-clear : tie.Need-sub-clear
 sub-clear c = omega arith
 
@@ -30,12 +27,6 @@ part-clear-start c = omega arith
 
 part-clear-end : tie.Need-part-clear-end
 part-clear-end c = omega arith
-
-clear-requires : tie.Need-clear-requires
-clear-requires c κs = search needs
-
-same-length : tie.Need-same-length
-same-length c = search needs
 
 returns : tie.Need-returns
 returns c =
@@ -53,10 +44,10 @@ clear-sum-spec =
     (tie.spec
     mul-from
     add-end
-    mul-clear
+    (λ c. search needs)
     sub-clear
     part-clear-start
     part-clear-end
-    clear-requires
-    same-length
+    (λ c κs. search needs)
+    (λ c. search needs)
     returns)

@@ -6,9 +6,6 @@ use Rattle.monomials.proofs.Table.{start-at}
 use Rattle.monomials.proofs.start.Statement.{statement}
 use Rattle.monomials.proofs.start.Tie as tie
 
-array-read-result : tie.Need-array-read-result
-array-read-result c = search needs
-
 cast-result : tie.Need-cast-result
 cast-result c = omega (arith, start-at (c .args .d) (omega arith))
 
@@ -16,4 +13,4 @@ returns : tie.Need-returns
 returns c = start-at (c .args .d) (search needs)
 
 pub start-spec : {M : Type 1} → statement M
-start-spec = tie.close (tie.spec array-read-result cast-result returns)
+start-spec = tie.close (tie.spec (λ c. search needs) cast-result returns)

@@ -13,9 +13,6 @@ use borrow.Author.Needs.{needs}
 use Rattle.packing.proofs.pack.Statement.{statement}
 use Rattle.packing.proofs.pack.Tie as tie
 
-div-many : tie.Need-div-many
-div-many c = search needs
-
 mul-size : tie.Need-mul-size
 mul-size c =
     let s = c .before .before in
@@ -33,9 +30,6 @@ div-least-2 : tie.Need-div-least-2
 div-least-2 c =
     let s = c .before .before in
     many-words (s .args .b) (s .pre .0) (s .pre .1)
-
-least-requires : tie.Need-least-requires
-least-requires c κs = search needs
 
 places : (c : tie.After-least) → c .least .result * (4 / c .before .before .before .args .b * c .before .before .before .args .b) ≤ length (c .before .before .before .args .octets .now)
 places c =
@@ -73,14 +67,8 @@ mul-from c = record { fits = lt-of-le-of-lt (places (c .before .before .before .
 sub-least : tie.Need-sub-least
 sub-least c = numbers (c .before .before .before .before)
 
-least-requires-2 : tie.Need-least-requires-2
-least-requires-2 c κs = search needs
-
 sub-least-2 : tie.Need-sub-least-2
 sub-least-2 c = start (c .before .before .before)
-
-least-requires-3 : tie.Need-least-requires-3
-least-requires-3 c κs = search needs
 
 gather-requires : tie.Need-gather-requires
 gather-requires c κs =
@@ -98,9 +86,6 @@ add-clear-octets c = record { fits = lt-of-le-of-lt (end (c .before .before .bef
 
 clear-octets-requires : tie.Need-clear-octets-requires
 clear-octets-requires c κs = rw (c .before .before .before .store .kept .0) (end (c .before .before .before .before))
-
-same-length : tie.Need-same-length
-same-length c = search needs
 
 returns : tie.Need-returns
 unfolding packed
@@ -121,22 +106,22 @@ pub pack-spec : {M : Type 1} → statement M
 pack-spec =
     tie.close
     (tie.spec
-    div-many
+    (λ c. search needs)
     mul-size
     mul-len
     div-least
     div-least-2
-    least-requires
+    (λ c κs. search needs)
     pack-groups-requires
     mul-at
     mul-from
     sub-least
-    least-requires-2
+    (λ c κs. search needs)
     sub-least-2
-    least-requires-3
+    (λ c κs. search needs)
     gather-requires
     store-requires
     add-clear-octets
     clear-octets-requires
-    same-length
+    (λ c. search needs)
     returns)

@@ -13,9 +13,6 @@ pack-groups-by-requires c κs =
     let pre = rw e at (s .pre) in
     (omega arith, omega arith, omega arith, pre .2, pre .3, pre .4)
 
-same-length : tie.Need-same-length
-same-length c = search needs
-
 returns : tie.Need-returns
 returns c =
     let e : c .before .before .before .before .before .before .before .args .b ≡ 1 = omega arith in
@@ -27,9 +24,6 @@ pack-groups-by-requires-2 c κs =
     let e : s .args .b ≡ 2 = omega arith in
     let pre = rw e at (s .pre) in
     (omega arith, omega arith, omega arith, pre .2, pre .3, pre .4)
-
-same-length-2 : tie.Need-same-length-2
-same-length-2 c = search needs
 
 returns-2 : tie.Need-returns-2
 returns-2 c =
@@ -43,9 +37,6 @@ pack-groups-by-requires-3 c κs =
     let pre = rw e at (s .pre) in
     (omega arith, omega arith, omega arith, pre .2, pre .3, pre .4)
 
-same-length-3 : tie.Need-same-length-3
-same-length-3 c = search needs
-
 returns-3 : tie.Need-returns-3
 returns-3 c =
     let e : c .before .before .before .before .before .before .before .before .before .args .b ≡ 3 = omega arith in
@@ -58,9 +49,6 @@ pack-groups-by-requires-4 c κs =
     let pre = rw e at (s .pre) in
     (omega arith, omega arith, omega arith, pre .2, pre .3, pre .4)
 
-same-length-4 : tie.Need-same-length-4
-same-length-4 c = search needs
-
 returns-4 : tie.Need-returns-4
 returns-4 c =
     let e : c .before .before .before .before .before .before .before .before .before .args .b ≡ 4 = omega arith in
@@ -71,14 +59,14 @@ pack-groups-spec =
     tie.close
     (tie.spec
     pack-groups-by-requires
-    same-length
+    (λ c. search needs)
     returns
     pack-groups-by-requires-2
-    same-length-2
+    (λ c. search needs)
     returns-2
     pack-groups-by-requires-3
-    same-length-3
+    (λ c. search needs)
     returns-3
     pack-groups-by-requires-4
-    same-length-4
+    (λ c. search needs)
     returns-4)

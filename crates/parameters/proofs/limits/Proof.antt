@@ -50,22 +50,13 @@ modulus-passed c = passed (modulus-is (c .before)) (c .if4 .left)
 
 -- ---- the needs
 
-range-fits-requires : tie.Need-range-fits-requires
-range-fits-requires c κs = search needs
-
 returns : tie.Need-returns
 unfolding limitsAnswer answer firstRefusal setTests
 returns c = rw (failed (c .before .range-fits .ensures) (c .if1 .taken))
 
-ring-fits-requires : tie.Need-ring-fits-requires
-ring-fits-requires c κs = search needs
-
 returns-2 : tie.Need-returns-2
 unfolding limitsAnswer answer firstRefusal setTests
 returns-2 c = rw (range-passed (c .before .before), failed (c .before .ring-fits .ensures) (c .if2 .taken))
-
-degree-fits-requires : tie.Need-degree-fits-requires
-degree-fits-requires c κs = search needs
 
 returns-3 : tie.Need-returns-3
 unfolding limitsAnswer answer firstRefusal setTests
@@ -76,9 +67,6 @@ returns-3 c =
 capped-bound-requires : tie.Need-capped-bound-requires
 capped-bound-requires c κs = (range-passed (c .before .before .before .before), (ring-passed (c .before .before), degree-passed c))
 
-modulus-fits-requires : tie.Need-modulus-fits-requires
-modulus-fits-requires c κs = search needs
-
 returns-4 : tie.Need-returns-4
 unfolding limitsAnswer answer firstRefusal setTests set-at
 returns-4 c =
@@ -86,9 +74,6 @@ returns-4 c =
     let ring = degree .before .before in
     rw
     (range-passed (ring .before .before), ring-passed ring, degree-passed degree, failed (modulus-is (c .before)) (c .if4 .taken))
-
-message-fits-requires : tie.Need-message-fits-requires
-message-fits-requires c κs = search needs
 
 returns-5 : tie.Need-returns-5
 unfolding limitsAnswer answer firstRefusal setTests set-at
@@ -139,5 +124,5 @@ returns-6 c =
 pub limits-spec : {M : Type 1} → statement M
 limits-spec =
     tie.close
-    (tie.spec range-fits-requires returns ring-fits-requires returns-2 degree-fits-requires returns-3 capped-bound-requires
-    modulus-fits-requires returns-4 message-fits-requires returns-5 sub-t5 div-t6 returns-6)
+    (tie.spec (λ c κs. search needs) returns (λ c κs. search needs) returns-2 (λ c κs. search needs) returns-3 capped-bound-requires
+    (λ c κs. search needs) returns-4 (λ c κs. search needs) returns-5 sub-t5 div-t6 returns-6)

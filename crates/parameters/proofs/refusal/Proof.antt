@@ -14,15 +14,6 @@ answered : (p : Parameters) (r s : LimitsAnswer) → limitsAs r ≡ limitsAnswer
 answered p r s e same =
     ap (λ (x : LimitsAnswer). number (limitsAs x)) (sym same) ∙ ap (λ (a : Answer Limits). number a) e ∙ limits-number p
 
-limits-requires : tie.Need-limits-requires
-limits-requires c κs = search needs
-
-enum-told : tie.Need-enum-told
-enum-told c = search needs
-
-enum-known-k : tie.Need-enum-known-k
-enum-known-k c = search needs
-
 returns : tie.Need-returns
 returns c = answered _ _ _ (c .before .before .limits .ensures) (c .enum-told .given .1)
 
@@ -30,4 +21,4 @@ returns-2 : tie.Need-returns-2
 returns-2 c = answered _ _ _ (c .before .before .before .limits .ensures) (c .before .k .given .1)
 
 pub refusal-spec : {M : Type 1} → statement M
-refusal-spec = tie.close (tie.spec limits-requires enum-told enum-known-k returns returns-2)
+refusal-spec = tie.close (tie.spec (λ c κs. search needs) (λ c. search needs) (λ c. search needs) returns returns-2)

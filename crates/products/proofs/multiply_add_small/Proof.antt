@@ -11,11 +11,8 @@ multiply-bounded-requires c κs =
     let pre = c .before .before .pre in
     (pre .0, (lit< tt, lit< tt, pre .1 .0, pre .1 .1, λ h k l. lt-of-lt-of-le (pre .1 .1 k l) h))
 
-same-length : tie.Need-same-length
-same-length c = search needs
-
 returns : tie.Need-returns
 returns c = search needs
 
 pub multiply-add-small-spec : {M : Type 1} → statement M
-multiply-add-small-spec = tie.close (tie.spec multiply-bounded-requires same-length returns)
+multiply-add-small-spec = tie.close (tie.spec multiply-bounded-requires (λ c. search needs) returns)

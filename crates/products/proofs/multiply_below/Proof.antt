@@ -10,9 +10,6 @@ use Rattle.products.proofs.multiply_below.Tie as tie
 split-requires : tie.Need-split-requires
 split-requires c κs = c .before .pre .0 .3
 
-slice-aggregate-multiply-in : tie.Need-slice-aggregate-multiply-in
-slice-aggregate-multiply-in c = search needs
-
 multiply-in-requires : tie.Need-multiply-in-requires
 multiply-in-requires c κs =
     let start = c .before .before .before .before .before in
@@ -26,9 +23,6 @@ same-length c = c .before .before .before .multiply-in .kept .0
 returns : tie.Need-returns
 returns c = c .before .before .before .multiply-in .ensures
 
-slice-aggregate-multiply-in-2 : tie.Need-slice-aggregate-multiply-in-2
-slice-aggregate-multiply-in-2 c = search needs
-
 multiply-in-requires-2 : tie.Need-multiply-in-requires-2
 multiply-in-requires-2 c κs =
     let start = c .before .before .before .before .before .before in
@@ -41,9 +35,6 @@ same-length-2 c = c .before .before .before .multiply-in2 .kept .0
 
 returns-2 : tie.Need-returns-2
 returns-2 c = c .before .before .before .multiply-in2 .ensures
-
-slice-aggregate-multiply-in-3 : tie.Need-slice-aggregate-multiply-in-3
-slice-aggregate-multiply-in-3 c = search needs
 
 multiply-in-requires-3 : tie.Need-multiply-in-requires-3
 multiply-in-requires-3 c κs =
@@ -63,15 +54,15 @@ multiply-below-spec =
     tie.close
     (tie.spec
     split-requires
-    slice-aggregate-multiply-in
+    (λ c. search needs)
     multiply-in-requires
     same-length
     returns
-    slice-aggregate-multiply-in-2
+    (λ c. search needs)
     multiply-in-requires-2
     same-length-2
     returns-2
-    slice-aggregate-multiply-in-3
+    (λ c. search needs)
     multiply-in-requires-3
     same-length-3
     returns-3)

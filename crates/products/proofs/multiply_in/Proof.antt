@@ -24,12 +24,6 @@ add-at c = omega (arith, c .before .before .pre .1 .0 .0 .most)
 add-free : tie.Need-add-free
 add-free c = omega (arith, c .before .before .pre .1 .0 .0 .most)
 
-load-requires : tie.Need-load-requires
-load-requires c κs = search needs
-
-load-requires-2 : tie.Need-load-requires-2
-load-requires-2 c κs = search needs
-
 reciprocal-requires : tie.Need-reciprocal-requires
 reciprocal-requires c κs = c .before .before .before .before .before .before .before .before .before .before .before .before .pre .0 .3
 
@@ -79,8 +73,8 @@ multiply-in-spec =
     (tie.spec
     add-at
     add-free
-    load-requires
-    load-requires-2
+    (λ c κs. search needs)
+    (λ c κs. search needs)
     reciprocal-requires
     multiply-requires
     fold-requires

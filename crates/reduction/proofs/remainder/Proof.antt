@@ -18,9 +18,6 @@ near c =
     let start = c .before in
     quotient-near 18446744073709551616 18446744073709551615 (start .args .q) (start .args .s) (start .args .reciprocal) (c .high-half .result) refl (start .pre .0) (start .pre .2) (c .high-half .ensures) (start .fits .s .fits)
 
-high-half-requires : tie.Need-high-half-requires
-high-half-requires c κs = search needs
-
 mul-r : tie.Need-mul-r
 mul-r c = omega (arith, low c)
 
@@ -37,4 +34,4 @@ returns-2 : tie.Need-returns-2
 returns-2 c = rest-above (c .before .high-half .result) (low (c .before)) (near (c .before)) (c .if1 .left)
 
 pub remainder-spec : {M : Type 1} → statement M
-remainder-spec = tie.close (tie.spec high-half-requires mul-r sub-r cast-t returns returns-2)
+remainder-spec = tie.close (tie.spec (λ c κs. search needs) mul-r sub-r cast-t returns returns-2)

@@ -9,12 +9,6 @@ use borrow.Author.Needs.{needs}
 use Rattle.ring.proofs.difference.Statement.{statement}
 use Rattle.ring.proofs.difference.Tie as tie
 
-wrapping-sub-u32-requires : tie.Need-wrapping-sub-u32-requires
-wrapping-sub-u32-requires c κs = search needs
-
-wrapping-add-u32-requires : tie.Need-wrapping-add-u32-requires
-wrapping-add-u32-requires c κs = search needs
-
 returns : tie.Need-returns
 returns c =
     let a = c .before .before .args in
@@ -28,4 +22,4 @@ returns-2 c =
     e ∙ sym (mod-eq-of-lt (omega arith))
 
 pub difference-spec : {M : Type 1} → statement M
-difference-spec = tie.close (tie.spec wrapping-sub-u32-requires wrapping-add-u32-requires returns returns-2)
+difference-spec = tie.close (tie.spec (λ c κs. search needs) (λ c κs. search needs) returns returns-2)

@@ -9,12 +9,6 @@ use borrow.Author.Needs.{needs}
 use Rattle.ring.proofs.sum.Statement.{statement}
 use Rattle.ring.proofs.sum.Tie as tie
 
-add-s : tie.Need-add-s
-add-s c = search needs
-
-wrapping-sub-u32-requires : tie.Need-wrapping-sub-u32-requires
-wrapping-sub-u32-requires c κs = search needs
-
 returns : tie.Need-returns
 returns c =
     let a = c .before .before .args in
@@ -25,4 +19,4 @@ returns-2 : tie.Need-returns-2
 returns-2 c = sym (mod-eq-of-lt (omega arith))
 
 pub sum-spec : {M : Type 1} → statement M
-sum-spec = tie.close (tie.spec add-s wrapping-sub-u32-requires returns returns-2)
+sum-spec = tie.close (tie.spec (λ c. search needs) (λ c κs. search needs) returns returns-2)

@@ -7,9 +7,6 @@ use mathlib.Core.Path.{sym}
 use Rattle.ring_multiples.proofs.negative.Statement.{statement}
 use Rattle.ring_multiples.proofs.negative.Tie as tie
 
-sub-result : tie.Need-sub-result
-sub-result c = search needs
-
 returns : tie.Need-returns
 returns c = rw (c .if1 .taken, sub-zero) (sym (mod-self (c .before .args .q)))
 
@@ -17,4 +14,4 @@ returns-2 : tie.Need-returns-2
 returns-2 c = sym (mod-eq-of-lt (omega arith))
 
 pub negative-spec : {M : Type 1} → statement M
-negative-spec = tie.close (tie.spec sub-result returns returns-2)
+negative-spec = tie.close (tie.spec (λ c. search needs) returns returns-2)

@@ -11,12 +11,6 @@ use Rattle.roomsheet_chunks.proofs.answer_last.Tie as tie
 returns : tie.Need-returns
 returns c = (omega arith, sym (roomsheet-none _ (c .if1 .taken)))
 
-answer-line-requires : tie.Need-answer-line-requires
-answer-line-requires c κs = search needs
-
-same-length : tie.Need-same-length
-same-length c = search needs
-
 returns-2 : tie.Need-returns-2
 returns-2 c =
     let s = c .before .before .before .before .before .before .before in
@@ -26,4 +20,4 @@ returns-2 c =
     )
 
 pub answer-last-spec : {M : Type 1} → statement M
-answer-last-spec = tie.close (tie.spec returns answer-line-requires same-length returns-2)
+answer-last-spec = tie.close (tie.spec returns (λ c κs. search needs) (λ c. search needs) returns-2)

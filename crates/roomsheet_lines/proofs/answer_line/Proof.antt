@@ -7,17 +7,8 @@ use Rattle.roomsheet_print.proofs.Printing.{limitsText-le, appended-append}
 use Rattle.roomsheet_lines.proofs.answer_line.Statement.{statement}
 use Rattle.roomsheet_lines.proofs.answer_line.Tie as tie
 
-judge-line-requires : tie.Need-judge-line-requires
-judge-line-requires c κs = search needs
-
-put-limits-requires : tie.Need-put-limits-requires
-put-limits-requires c κs = search needs
-
 put-octet-requires : tie.Need-put-octet-requires
 put-octet-requires c κs = omega (arith, limitsText-le (limitsAs (c .before .before .before .before .judge-line .result)))
-
-same-length : tie.Need-same-length
-same-length c = search needs
 
 returns : tie.Need-returns
 returns c =
@@ -25,4 +16,4 @@ returns c =
     (appended-append _ _ _ _ _ _ _ _ (c .before .before .before .before .before .before .put-limits .ensures) (c .before .before .put-octet .ensures))
 
 pub answer-line-spec : {M : Type 1} → statement M
-answer-line-spec = tie.close (tie.spec judge-line-requires put-limits-requires put-octet-requires same-length returns)
+answer-line-spec = tie.close (tie.spec (λ c κs. search needs) (λ c κs. search needs) put-octet-requires (λ c. search needs) returns)

@@ -26,15 +26,6 @@ read-at : (c : tie.After-known-told) →
 unfolding digitsAt
 read-at c = read-value _ _ _ _ _ (read-told c)
 
-read-digits-requires : tie.Need-read-digits-requires
-read-digits-requires c κs = search needs
-
-enum-known-read : tie.Need-enum-known-read
-enum-known-read c = search needs
-
-enum-told : tie.Need-enum-told
-enum-told c = search needs
-
 returns : tie.Need-returns
 unfolding digitsAt
 returns c =
@@ -43,9 +34,6 @@ returns c =
 
 returns-2 : tie.Need-returns-2
 returns-2 c = number-empty _ _ (omega (arith, read-at (c .before)))
-
-add-if2 : tie.Need-add-if2
-add-if2 c = search needs
 
 returns-3 : tie.Need-returns-3
 returns-3 c =
@@ -70,4 +58,4 @@ returns-5 c =
 pub parse-number-spec : {M : Type 1} → statement M
 parse-number-spec =
     tie.close
-    (tie.spec read-digits-requires enum-known-read enum-told returns returns-2 add-if2 returns-3 shared-slice-read-if3 returns-4 returns-5)
+    (tie.spec (λ c κs. search needs) (λ c. search needs) (λ c. search needs) returns returns-2 (λ c. search needs) returns-3 shared-slice-read-if3 returns-4 returns-5)

@@ -7,33 +7,15 @@ use Rattle.roomsheet_print.proofs.Printing.{decimalText-le, appended-ap
 use Rattle.roomsheet_print.proofs.put_limits.Statement.{statement}
 use Rattle.roomsheet_print.proofs.put_limits.Tie as tie
 
-enum-known-answer : tie.Need-enum-known-answer
-enum-known-answer c = search needs
-
-put-number-requires : tie.Need-put-number-requires
-put-number-requires c κs = search needs
-
-enum-known-answer-2 : tie.Need-enum-known-answer-2
-enum-known-answer-2 c = search needs
-
-put-number-requires-2 : tie.Need-put-number-requires-2
-put-number-requires-2 c κs = search needs
-
 put-next-requires : tie.Need-put-next-requires
 put-next-requires c κs = omega (arith, decimalText-le 0)
 
 put-next-requires-2 : tie.Need-put-next-requires-2
 put-next-requires-2 c κs = omega (arith, decimalText-le 0, decimalText-le (c .before .before .before .before .before .before .before .before .before .before .answer2 .given .0 .0 .bound))
 
-same-length : tie.Need-same-length
-same-length c = search needs
-
 returns : tie.Need-returns
 unfolding limitsText
 returns c = rw (c .before .before .before .before .before .answer .given .1) (c .before .before .put-number .ensures)
-
-same-length-2 : tie.Need-same-length-2
-same-length-2 c = search needs
 
 returns-2 : tie.Need-returns-2
 unfolding limitsText
@@ -45,5 +27,5 @@ returns-2 c =
 pub put-limits-spec : {M : Type 1} → statement M
 put-limits-spec =
     tie.close
-    (tie.spec enum-known-answer put-number-requires enum-known-answer-2 put-number-requires-2 put-next-requires put-next-requires-2
-    same-length returns same-length-2 returns-2)
+    (tie.spec (λ c. search needs) (λ c κs. search needs) (λ c. search needs) (λ c κs. search needs) put-next-requires put-next-requires-2
+    (λ c. search needs) returns (λ c. search needs) returns-2)

@@ -5,17 +5,8 @@ use Rattle.roomsheet_print.proofs.Printing.{appended-append}
 use Rattle.roomsheet_print.proofs.put_next.Statement.{statement}
 use Rattle.roomsheet_print.proofs.put_next.Tie as tie
 
-put-octet-requires : tie.Need-put-octet-requires
-put-octet-requires c κs = search needs
-
-put-number-requires : tie.Need-put-number-requires
-put-number-requires c κs = search needs
-
-same-length : tie.Need-same-length
-same-length c = search needs
-
 returns : tie.Need-returns
 returns c = appended-append _ _ _ _ _ _ _ _ (c .before .before .before .before .before .before .put-octet .ensures) (c .before .before .put-number .ensures)
 
 pub put-next-spec : {M : Type 1} → statement M
-put-next-spec = tie.close (tie.spec put-octet-requires put-number-requires same-length returns)
+put-next-spec = tie.close (tie.spec (λ c κs. search needs) (λ c κs. search needs) (λ c. search needs) returns)

@@ -6,15 +6,6 @@ use Rattle.rows.specs.Rows.{padded}
 use Rattle.rows.proofs.factor.Statement.{statement}
 use Rattle.rows.proofs.factor.Tie as tie
 
-add-result : tie.Need-add-result
-add-result c = search needs
-
-mul-result : tie.Need-mul-result
-mul-result c = search needs
-
-shared-slice-read-result : tie.Need-shared-slice-read-result
-shared-slice-read-result c = search needs
-
 returns : tie.Need-returns
 unfolding padded
 returns c = simp (lt-ltb _ _ (c .before .if1 .taken))
@@ -24,4 +15,4 @@ unfolding padded
 returns-2 c = simp (le-ltb _ _ (c .if1 .left))
 
 pub factor-spec : {M : Type 1} → statement M
-factor-spec = tie.close (tie.spec add-result mul-result shared-slice-read-result returns returns-2)
+factor-spec = tie.close (tie.spec (λ c. search needs) (λ c. search needs) (λ c. search needs) returns returns-2)

@@ -10,22 +10,10 @@ use Rattle.rows.proofs.Rows.{linear-row, row-operands, reduced-lent}
 use Rattle.rows.proofs.multiply_cut.Statement.{statement}
 use Rattle.rows.proofs.multiply_cut.Tie as tie
 
-slice-aggregate-pad : tie.Need-slice-aggregate-pad
-slice-aggregate-pad c = search needs
-
 pad-requires : tie.Need-pad-requires
 pad-requires c κs =
     let pre = c .before .before .before .pre in
     (pre .0 .0, pre .0 .2, refl)
-
-slice-aggregate-all-cut-rows : tie.Need-slice-aggregate-all-cut-rows
-slice-aggregate-all-cut-rows c = search needs
-
-slice-aggregate-all-cut-rows-2 : tie.Need-slice-aggregate-all-cut-rows-2
-slice-aggregate-all-cut-rows-2 c = search needs
-
-slice-aggregate-all-cut-rows-3 : tie.Need-slice-aggregate-all-cut-rows-3
-slice-aggregate-all-cut-rows-3 c = search needs
 
 all-cut-rows-requires : tie.Need-all-cut-rows-requires
 all-cut-rows-requires c κs =
@@ -33,35 +21,11 @@ all-cut-rows-requires c κs =
     let pad = c .before .before .before .before .before .pad in
     (row-operands (start .args .m) _ (pad .last .0) (pad .ensures) (start .pre .0 .0) (start .pre .0 .1) (omega (arith, pad .kept)) (le-of-lt (start .pre .0 .5)) (le-of-lt (start .pre .0 .5)) (start .pre .1 .0) (start .pre .1 .1), refl, refl)
 
-mul-reduce-cut : tie.Need-mul-reduce-cut
-mul-reduce-cut c = search needs
-
-sub-reduce-cut : tie.Need-sub-reduce-cut
-sub-reduce-cut c = search needs
-
-part-reduce-cut-start : tie.Need-part-reduce-cut-start
-part-reduce-cut-start c = search needs
-
-part-reduce-cut-end : tie.Need-part-reduce-cut-end
-part-reduce-cut-end c = search needs
-
-slice-aggregate-reduce-cut : tie.Need-slice-aggregate-reduce-cut
-slice-aggregate-reduce-cut c = search needs
-
-slice-aggregate-reduce-cut-2 : tie.Need-slice-aggregate-reduce-cut-2
-slice-aggregate-reduce-cut-2 c = search needs
-
-add-reduce-cut : tie.Need-add-reduce-cut
-add-reduce-cut c = search needs
-
 reduce-cut-requires : tie.Need-reduce-cut-requires
 reduce-cut-requires c κs =
     let start = c .before .before .before .before .before .before .before .before .before .before .before .before .before .before .before in
     let rows = c .before .before .before .before .before .all-cut-rows in
     ((omega arith, omega (arith, rows .kept), omega (arith, rows .kept), start .pre .0 .4, start .pre .0 .5, start .pre .0 .6), ((λ k l. rows .ensures k .low-small), (λ k l. rows .ensures k .high-small)))
-
-same-length : tie.Need-same-length
-same-length c = search needs
 
 returns : tie.Need-returns
 returns c =
@@ -75,19 +39,19 @@ pub multiply-cut-spec : {M : Type 1} → statement M
 multiply-cut-spec =
     tie.close
     (tie.spec
-    slice-aggregate-pad
+    (λ c. search needs)
     pad-requires
-    slice-aggregate-all-cut-rows
-    slice-aggregate-all-cut-rows-2
-    slice-aggregate-all-cut-rows-3
+    (λ c. search needs)
+    (λ c. search needs)
+    (λ c. search needs)
     all-cut-rows-requires
-    mul-reduce-cut
-    sub-reduce-cut
-    part-reduce-cut-start
-    part-reduce-cut-end
-    slice-aggregate-reduce-cut
-    slice-aggregate-reduce-cut-2
-    add-reduce-cut
+    (λ c. search needs)
+    (λ c. search needs)
+    (λ c. search needs)
+    (λ c. search needs)
+    (λ c. search needs)
+    (λ c. search needs)
+    (λ c. search needs)
     reduce-cut-requires
-    same-length
+    (λ c. search needs)
     returns)

@@ -8,15 +8,6 @@ use Rattle.rows.proofs.Rows.{linear-small, linear-row, row-operands}
 use Rattle.rows.proofs.sums.Statement.{statement}
 use Rattle.rows.proofs.sums.Tie as tie
 
-slice-aggregate-pad : tie.Need-slice-aggregate-pad
-slice-aggregate-pad c = search needs
-
-pad-requires : tie.Need-pad-requires
-pad-requires c κs = search needs
-
-slice-aggregate-all-rows : tie.Need-slice-aggregate-all-rows
-slice-aggregate-all-rows c = search needs
-
 all-rows-requires : tie.Need-all-rows-requires
 all-rows-requires c κs =
     let start = c .before .before .before .before .before .before .before in
@@ -26,9 +17,6 @@ all-rows-requires c κs =
       (λ k. rw (linear-row (a .m) _ (pad .last .0) (pad .ensures) (part (a .words .now) (a .a)) k)
           (linear-small (a .m) (a .q) (a .top) _ _ (omega arith) (omega arith) (start .pre .1 .0) (start .pre .1 .1) k)),
     )
-
-same-length : tie.Need-same-length
-same-length c = search needs
 
 returns : tie.Need-returns
 returns c = λ k.
@@ -40,9 +28,9 @@ pub sums-spec : {M : Type 1} → statement M
 sums-spec =
     tie.close
     (tie.spec
-    slice-aggregate-pad
-    pad-requires
-    slice-aggregate-all-rows
+    (λ c. search needs)
+    (λ c κs. search needs)
+    (λ c. search needs)
     all-rows-requires
-    same-length
+    (λ c. search needs)
     returns)

@@ -15,38 +15,11 @@ use Rattle.secrets.specs.Secrets.{half}
 use Rattle.secrets.proofs.half_padded.Statement.{statement}
 use Rattle.secrets.proofs.half_padded.Tie as tie
 
-small-length-requires : tie.Need-small-length-requires
-small-length-requires c κs = search needs
-
-add-end : tie.Need-add-end
-add-end c = search needs
-
-cast-used : tie.Need-cast-used
-cast-used c = search needs
-
-bits-requires : tie.Need-bits-requires
-bits-requires c κs = search needs
-
-cast-used-2 : tie.Need-cast-used-2
-cast-used-2 c = search needs
-
 mul-used : tie.Need-mul-used
 mul-used c =
     let n : c .before .before .before .before .args .p .n ≤ 4294967295 = omega arith in
     let b : c .bits .result ≤ 4 = omega (arith, smallBits-within (c .before .before .before .before .args .p .l)) in
     omega (arith, mul-le-mul n b)
-
-sub-padding : tie.Need-sub-padding
-sub-padding c = search needs
-
-part-padding-start : tie.Need-part-padding-start
-part-padding-start c = search needs
-
-part-padding-end : tie.Need-part-padding-end
-part-padding-end c = search needs
-
-padding-requires : tie.Need-padding-requires
-padding-requires c κs = search needs
 
 judged : (c : tie.After-padding) →
     let a = c .before .before .before .before .before .before .args in
@@ -68,15 +41,15 @@ pub half-padded-spec : {M : Type 1} → statement M
 half-padded-spec =
     tie.close
     (tie.spec
-    small-length-requires
-    add-end
-    cast-used
-    bits-requires
-    cast-used-2
+    (λ c κs. search needs)
+    (λ c. search needs)
+    (λ c. search needs)
+    (λ c κs. search needs)
+    (λ c. search needs)
     mul-used
-    sub-padding
-    part-padding-start
-    part-padding-end
-    padding-requires
+    (λ c. search needs)
+    (λ c. search needs)
+    (λ c. search needs)
+    (λ c κs. search needs)
     returns
     returns-2)

@@ -13,9 +13,6 @@ use Rattle.secrets.proofs.Halves.{first-room, second-room, padded-not, 
 use Rattle.secrets.proofs.padded.Statement.{statement}
 use Rattle.secrets.proofs.padded.Tie as tie
 
-small-length-requires : tie.Need-small-length-requires
-small-length-requires c κs = search needs
-
 half-padded-requires : tie.Need-half-padded-requires
 half-padded-requires c κs = first-room (setFrom (c .before .before .args .p)) (c .before .before .args .secret .now) (c .before .before .pre)
 
@@ -37,4 +34,4 @@ returns-2 c =
 pub padded-spec : {M : Type 1} → statement M
 padded-spec =
     tie.close
-    (tie.spec small-length-requires half-padded-requires returns half-padded-requires-2 returns-2)
+    (tie.spec (λ c κs. search needs) half-padded-requires returns half-padded-requires-2 returns-2)

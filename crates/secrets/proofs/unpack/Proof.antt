@@ -15,17 +15,11 @@ use Rattle.secrets.proofs.Halves.{first-room, second-room, unpacked-hal
 use Rattle.secrets.proofs.unpack.Statement.{statement}
 use Rattle.secrets.proofs.unpack.Tie as tie
 
-small-length-requires : tie.Need-small-length-requires
-small-length-requires c κs = search needs
-
 unpack-half-requires : tie.Need-unpack-half-requires
 unfolding workLength
 unpack-half-requires c κs =
     let room : length (c .before .before .before .before .args .work .now) ≡ 8 * c .before .before .before .before .args .p .n = c .before .before .before .before .pre .1 in
     (first-room (setFrom (c .before .before .before .before .args .p)) (c .before .before .before .before .args .secret .now) (c .before .before .before .before .pre .0), omega (arith, room))
-
-cast-unpack-half : tie.Need-cast-unpack-half
-cast-unpack-half c = search needs
 
 unpack-half-requires-2 : tie.Need-unpack-half-requires-2
 unfolding workLength
@@ -33,9 +27,6 @@ unpack-half-requires-2 c κs =
     let a = c .before .before .before .before .before .before .before .before .before .args in
     let room : length (c .before .before .before .before .unpack-half .last .1 .1 .1 .0) ≡ 8 * a .p .n = c .before .before .before .before .unpack-half .kept .1 .1 .1 .0 ∙ c .before .before .before .before .before .before .before .before .before .pre .1 in
     (omega (arith, c .before .before .before .before .before .before .small-length .ensures, second-room (setFrom (a .p)) (a .secret .now) (c .before .before .before .before .before .before .before .before .before .pre .0)), omega (arith, room))
-
-same-length : tie.Need-same-length
-same-length c = search needs
 
 returns : tie.Need-returns
 returns c =
@@ -49,9 +40,9 @@ pub unpack-spec : {M : Type 1} → statement M
 unpack-spec =
     tie.close
     (tie.spec
-    small-length-requires
+    (λ c κs. search needs)
     unpack-half-requires
-    cast-unpack-half
+    (λ c. search needs)
     unpack-half-requires-2
-    same-length
+    (λ c. search needs)
     returns)

@@ -18,47 +18,8 @@ use Rattle.secrets.specs.Secrets.{half}
 use Rattle.secrets.proofs.unpack_half.Statement.{statement}
 use Rattle.secrets.proofs.unpack_half.Tie as tie
 
-small-length-requires : tie.Need-small-length-requires
-small-length-requires c κs = search needs
-
-add-end : tie.Need-add-end
-add-end c = search needs
-
-bits-requires : tie.Need-bits-requires
-bits-requires c κs = search needs
-
-cast-stop : tie.Need-cast-stop
-cast-stop c = search needs
-
-add-stop : tie.Need-add-stop
-add-stop c = search needs
-
-sub-unpack : tie.Need-sub-unpack
-sub-unpack c = search needs
-
-part-unpack-start : tie.Need-part-unpack-start
-part-unpack-start c = search needs
-
-part-unpack-end : tie.Need-part-unpack-end
-part-unpack-end c = search needs
-
-mul-unpack : tie.Need-mul-unpack
-mul-unpack c = search needs
-
-sub-unpack-2 : tie.Need-sub-unpack-2
-sub-unpack-2 c = search needs
-
-part-unpack-start-2 : tie.Need-part-unpack-start-2
-part-unpack-start-2 c = search needs
-
-part-unpack-end-2 : tie.Need-part-unpack-end-2
-part-unpack-end-2 c = search needs
-
 unpack-requires : tie.Need-unpack-requires
 unpack-requires c κs = omega (arith, c .before .before .before .bits .ensures, smallBits-within (c .before .before .before .before .before .before .before .args .p .l))
-
-same-length : tie.Need-same-length
-same-length c = search needs
 
 returns : tie.Need-returns
 returns c =
@@ -76,18 +37,18 @@ pub unpack-half-spec : {M : Type 1} → statement M
 unpack-half-spec =
     tie.close
     (tie.spec
-    small-length-requires
-    add-end
-    bits-requires
-    cast-stop
-    add-stop
-    sub-unpack
-    part-unpack-start
-    part-unpack-end
-    mul-unpack
-    sub-unpack-2
-    part-unpack-start-2
-    part-unpack-end-2
+    (λ c κs. search needs)
+    (λ c. search needs)
+    (λ c κs. search needs)
+    (λ c. search needs)
+    (λ c. search needs)
+    (λ c. search needs)
+    (λ c. search needs)
+    (λ c. search needs)
+    (λ c. search needs)
+    (λ c. search needs)
+    (λ c. search needs)
+    (λ c. search needs)
     unpack-requires
-    same-length
+    (λ c. search needs)
     returns)

@@ -22,9 +22,6 @@ padded-requires c κs = c .before .before .before .pre .secret-length
 returns : tie.Need-returns
 returns c = valued-padding _ _ _ _ _ (sym (c .before .padded .ensures) ∙ not-true _ (c .if1 .taken))
 
-octets-of-coefficient-requires : tie.Need-octets-of-coefficient-requires
-octets-of-coefficient-requires c κs = search needs
-
 padding-passed : (c : tie.Else1) → secretPadded (setFrom (c .before .before .before .before .before .args .p)) (c .before .before .before .before .before .args .secret .now) ≡ true
 padding-passed c = sym (c .before .padded .ensures) ∙ not-false _ (c .if1 .left)
 
@@ -46,9 +43,6 @@ fits c =
 
 unpack-requires : tie.Need-unpack-requires
 unpack-requires c κs = (c .before .before .before .before .before .before .before .before .before .pre .secret-length, c .before .before .before .before .before .before .before .before .before .pre .work-length)
-
-cast-evaluate : tie.Need-cast-evaluate
-cast-evaluate c = search needs
 
 evaluate-requires : tie.Need-evaluate-requires
 evaluate-requires c κs =
@@ -75,11 +69,11 @@ value-spec =
     (tie.spec
     padded-requires
     returns
-    octets-of-coefficient-requires
+    (λ c κs. search needs)
     judge-requires
     returns-2
     unpack-requires
-    cast-evaluate
+    (λ c. search needs)
     evaluate-requires
     same-length
     returns-3)

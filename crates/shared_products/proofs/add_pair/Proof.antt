@@ -60,9 +60,6 @@ subtract-from-requires-2 c κs =
       (summed-inRing (g .modulus-least) less, (λ k l. omega (arith, diagonal-inRing g (s .pre .1) k l, diagonal-inRing g before k l))),
     )
 
-same-length : tie.Need-same-length
-same-length c = search needs
-
 returns-2 : tie.Need-returns-2
 returns-2 c =
     let s = c .before .before .before .before .before .before .before .before .before .before .before .before .before .before .before .before .before in
@@ -88,5 +85,5 @@ add-pair-spec =
     subtract-from-requires
     mul-subtract-from-2
     subtract-from-requires-2
-    same-length
+    (λ c. search needs)
     returns-2)

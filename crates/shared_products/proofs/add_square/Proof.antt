@@ -11,27 +11,12 @@ use Rattle.shared_products.proofs.Terms.{sameMonomial-one}
 use Rattle.shared_products.proofs.add_square.Statement.{statement}
 use Rattle.shared_products.proofs.add_square.Tie as tie
 
-same-monomial-requires : tie.Need-same-monomial-requires
-same-monomial-requires c κs = search needs
-
 returns : tie.Need-returns
 returns c =
     let s = c .before .before .before .before in
     let e : sameMonomial (monomialAt (s .args .d) (s .args .i)) (monomialAt (s .args .d) (s .args .i)) (monomialAt (s .args .d + s .args .d) (s .args .m)) ≡ 0 =
     sym (c .before .same-monomial .ensures) ∙ c .if1 .taken in
     summed-none (s .pre .1 .2) (λ k l. rw (e, mul-zero) (add-zero _))
-
-mul-add-from : tie.Need-mul-add-from
-mul-add-from c = search needs
-
-mul-add-from-2 : tie.Need-mul-add-from-2
-mul-add-from-2 c = search needs
-
-add-from-requires : tie.Need-add-from-requires
-add-from-requires c κs = search needs
-
-same-length : tie.Need-same-length
-same-length c = search needs
 
 returns-2 : tie.Need-returns-2
 returns-2 c =
@@ -44,10 +29,10 @@ pub add-square-spec : {M : Type 1} → statement M
 add-square-spec =
     tie.close
     (tie.spec
-    same-monomial-requires
+    (λ c κs. search needs)
     returns
-    mul-add-from
-    mul-add-from-2
-    add-from-requires
-    same-length
+    (λ c. search needs)
+    (λ c. search needs)
+    (λ c κs. search needs)
+    (λ c. search needs)
     returns-2)

@@ -9,15 +9,6 @@ use Rattle.shared_products.proofs.Turns.{wrote, sum-written}
 use Rattle.shared_products.proofs.load_sum.Statement.{statement}
 use Rattle.shared_products.proofs.load_sum.Tie as tie
 
-mul-spare : tie.Need-mul-spare
-mul-spare c = search needs
-
-mul-copy-from : tie.Need-mul-copy-from
-mul-copy-from c = search needs
-
-copy-from-requires : tie.Need-copy-from-requires
-copy-from-requires c κs = search needs
-
 mul-add-from : tie.Need-mul-add-from
 mul-add-from c =
     let s = c .before .before .before .before .before .before .before in
@@ -33,9 +24,6 @@ add-from-requires c κs =
       ((λ k l. rw (w .here k l) (s .pre .key-first k l)), (λ k l. omega (arith, s .pre .key-first k l, s .pre .key-second k l))),
     )
 
-same-length : tie.Need-same-length
-same-length c = search needs
-
 returns : tie.Need-returns
 returns c =
     let s = c .before .before .before .before .before .before .before .before .before .before in
@@ -47,10 +35,10 @@ pub load-sum-spec : {M : Type 1} → statement M
 load-sum-spec =
     tie.close
     (tie.spec
-    mul-spare
-    mul-copy-from
-    copy-from-requires
+    (λ c. search needs)
+    (λ c. search needs)
+    (λ c κs. search needs)
     mul-add-from
     add-from-requires
-    same-length
+    (λ c. search needs)
     returns)

@@ -21,15 +21,6 @@ mul-other c =
     let s = c .before .before in
     omega (arith, part-room (s .args .n) (s .args .j) (s .args .i) (s .pre .second), part-room (s .args .n) (s .args .i) 6 (s .pre .first), s .pre .most)
 
-mul-spare : tie.Need-mul-spare
-mul-spare c = search needs
-
-mul-total : tie.Need-mul-total
-mul-total c = search needs
-
-load-sum-requires : tie.Need-load-sum-requires
-load-sum-requires c κs = search needs
-
 add-requires : tie.Need-add-requires
 add-requires c κs =
     let s = c .before .before .before .before .before .before .before in
@@ -65,9 +56,6 @@ subtract-requires c κs =
       ((λ k l. omega (arith, both .0 k l, both .1 k l)), (λ k l. rw (sums .others (a .j * a .n + k) (omega arith) (inl (omega arith))) (s .pre .mask-second k l))),
     )
 
-same-length : tie.Need-same-length
-same-length c = search needs
-
 returns : tie.Need-returns
 returns c =
     let s = c .before .before .before .before .before .before .before .before .before .before .before .before .before .before .before .before .before .before in
@@ -87,11 +75,11 @@ multiply-sums-spec =
     (tie.spec
     mul-at
     mul-other
-    mul-spare
-    mul-total
-    load-sum-requires
+    (λ c. search needs)
+    (λ c. search needs)
+    (λ c κs. search needs)
     add-requires
     multiply-add-requires
     subtract-requires
-    same-length
+    (λ c. search needs)
     returns)

@@ -16,27 +16,12 @@ use Rattle.shared_products.proofs.Terms.{element-product}
 use Rattle.shared_products.proofs.prepare_element.Statement.{statement}
 use Rattle.shared_products.proofs.prepare_element.Tie as tie
 
-mul-at : tie.Need-mul-at
-mul-at c = search needs
-
-mul-spare : tie.Need-mul-spare
-mul-spare c = search needs
-
-mul-total : tie.Need-mul-total
-mul-total c = search needs
-
-clear-sum-requires : tie.Need-clear-sum-requires
-clear-sum-requires c κs = search needs
-
 load-requires : tie.Need-load-requires
 load-requires c κs =
     let s = c .before .before .before .before .before .before .before .before .before in
     let a = s .args in
     let g = inputs-kept (s .pre .0) (c .before .before .before .clear-sum .ensures) in
     (g .sizes, omega (arith, count-six (a .d) (g .key-degree), s .pre .1), key-room g (s .pre .1), omega (arith, g .sizes .room))
-
-copy-from-requires : tie.Need-copy-from-requires
-copy-from-requires c κs = search needs
 
 multiply-add-requires : tie.Need-multiply-add-requires
 multiply-add-requires c κs =
@@ -48,18 +33,6 @@ multiply-add-requires c κs =
       (omega arith, omega arith, omega arith, g .sizes .most, g .modulus-least, g .modulus-most),
       (key-loaded g (s .pre .1) (c .before .before .before .before .before .before .before .before .load .ensures), mask-loaded g (a .i) (s .pre .1) few (c .before .before .before .before .before .before .before .before .load .ensures)),
     )
-
-copy-from-requires-2 : tie.Need-copy-from-requires-2
-copy-from-requires-2 c κs = search needs
-
-same-length : tie.Need-same-length
-same-length c = search needs
-
-same-length-2 : tie.Need-same-length-2
-same-length-2 c = search needs
-
-same-length-3 : tie.Need-same-length-3
-same-length-3 c = search needs
 
 returns : tie.Need-returns
 returns c =
@@ -79,15 +52,15 @@ pub prepare-element-spec : {M : Type 1} → statement M
 prepare-element-spec =
     tie.close
     (tie.spec
-    mul-at
-    mul-spare
-    mul-total
-    clear-sum-requires
+    (λ c. search needs)
+    (λ c. search needs)
+    (λ c. search needs)
+    (λ c κs. search needs)
     load-requires
-    copy-from-requires
+    (λ c κs. search needs)
     multiply-add-requires
-    copy-from-requires-2
-    same-length
-    same-length-2
-    same-length-3
+    (λ c κs. search needs)
+    (λ c. search needs)
+    (λ c. search needs)
+    (λ c. search needs)
     returns)

@@ -12,38 +12,20 @@ use borrow.Author.Needs.{needs}
 use Rattle.small_conversions.proofs.small_from_octets.Statement.{statement}
 use Rattle.small_conversions.proofs.small_from_octets.Tie as tie
 
-refusal-requires : tie.Need-refusal-requires
-refusal-requires c κs = search needs
-
 returns : tie.Need-returns
 returns c = exit-set (small-from-tested _ _ _) _ (c .before .refusal .result) (c .if1 .taken) (c .before .refusal .ensures)
 
 accepted : (c : tie.Else1) → firstRefusal (setTests (setFrom (c .before .before .before .before .args .p))) ≡ 0
 accepted c = sym (c .before .refusal .ensures) ∙ c .if1 .left
 
-small-length-requires : tie.Need-small-length-requires
-small-length-requires c κs = search needs
-
 returns-2 : tie.Need-returns-2
 returns-2 c = exit-first (small-from-tested _ _ _) _ (accepted (c .before .before)) (λ e. c .if2 .taken (e ∙ sym (c .before .small-length .ensures)))
-
-cast-if3 : tie.Need-cast-if3
-cast-if3 c = search needs
 
 returns-3 : tie.Need-returns-3
 returns-3 c = exit-second (small-from-tested _ _ _) _ (accepted (c .before .before .before .before)) (c .before .before .if2 .left ∙ c .before .before .before .small-length .ensures) (c .if3 .taken)
 
-bits-requires : tie.Need-bits-requires
-bits-requires c κs = search needs
-
-cast-padding : tie.Need-cast-padding
-cast-padding c = search needs
-
 mul-padding : tie.Need-mul-padding
 mul-padding c = record { fits = rw (c .before .if3 .left, c .bits .ensures) (bits-fit (setFrom (c .before .before .before .before .before .before .before .before .before .args .p)) (accepted (c .before .before .before .before .before))) }
-
-padding-requires : tie.Need-padding-requires
-padding-requires c κs = search needs
 
 returns-4 : tie.Need-returns-4
 unfolding paddingNumber
@@ -55,9 +37,6 @@ unpack-requires : tie.Need-unpack-requires
 unpack-requires c κs =
     let s = c .before .before .before .before .before .before .before .before .before .before .before .before in
     rw (c .before .before .before .bits .ensures) (bits-least (setFrom (s .args .p)) (accepted (c .before .before .before .before .before .before .before .before)), bits-most (setFrom (s .args .p)) (accepted (c .before .before .before .before .before .before .before .before)))
-
-same-length : tie.Need-same-length
-same-length c = search needs
 
 returns-5 : tie.Need-returns-5
 unfolding paddingNumber
@@ -73,17 +52,17 @@ pub small-from-octets-spec : {M : Type 1} → statement M
 small-from-octets-spec =
     tie.close
     (tie.spec
-    refusal-requires
+    (λ c κs. search needs)
     returns
-    small-length-requires
+    (λ c κs. search needs)
     returns-2
-    cast-if3
+    (λ c. search needs)
     returns-3
-    bits-requires
-    cast-padding
+    (λ c κs. search needs)
+    (λ c. search needs)
     mul-padding
-    padding-requires
+    (λ c κs. search needs)
     returns-4
     unpack-requires
-    same-length
+    (λ c. search needs)
     returns-5)

@@ -15,29 +15,17 @@ use borrow.Author.Needs.{needs}
 use Rattle.small_conversions.proofs.small_to_octets.Statement.{statement}
 use Rattle.small_conversions.proofs.small_to_octets.Tie as tie
 
-refusal-requires : tie.Need-refusal-requires
-refusal-requires c κs = search needs
-
 returns : tie.Need-returns
 returns c = exit-set (small-to-tested _ _ _) _ (c .before .refusal .result) (c .if1 .taken) (c .before .refusal .ensures)
 
 accepted : (c : tie.Else1) → firstRefusal (setTests (setFrom (c .before .before .before .before .args .p))) ≡ 0
 accepted c = sym (c .before .refusal .ensures) ∙ c .if1 .left
 
-cast-if2 : tie.Need-cast-if2
-cast-if2 c = search needs
-
 returns-2 : tie.Need-returns-2
 returns-2 c = exit-first (small-to-tested _ _ _) _ (accepted (c .before .before)) (c .if2 .taken)
 
-small-length-requires : tie.Need-small-length-requires
-small-length-requires c κs = search needs
-
 returns-3 : tie.Need-returns-3
 returns-3 c = exit-second (small-to-tested _ _ _) _ (accepted (c .before .before .before .before)) (c .before .before .if2 .left) (λ e. c .if3 .taken (e ∙ sym (c .before .small-length .ensures)))
-
-bits-requires : tie.Need-bits-requires
-bits-requires c κs = search needs
 
 judge-small-requires : tie.Need-judge-small-requires
 judge-small-requires c κs = omega (arith, c .bits .ensures, bits-most (setFrom (c .before .before .before .before .before .before .before .before .before .args .p)) (accepted (c .before .before .before .before .before)))
@@ -62,9 +50,6 @@ pack-requires c κs =
     let fits : fitNumber (2 ^ c .before .before .before .bits .result) (a .words .now) ≡ 0 = sym (c .before .before .judge-small .ensures) ∙ c .before .if4 .left in
     (rw (c .before .before .before .bits .ensures) (bits-least (setFrom (a .p)) set), rw (c .before .before .before .bits .ensures) (bits-most (setFrom (a .p)) set), fitNumber-fits _ (a .words .now) fits)
 
-same-length : tie.Need-same-length
-same-length c = search needs
-
 returns-5 : tie.Need-returns-5
 unfolding fitNumber
 returns-5 c =
@@ -79,15 +64,15 @@ pub small-to-octets-spec : {M : Type 1} → statement M
 small-to-octets-spec =
     tie.close
     (tie.spec
-    refusal-requires
+    (λ c κs. search needs)
     returns
-    cast-if2
+    (λ c. search needs)
     returns-2
-    small-length-requires
+    (λ c κs. search needs)
     returns-3
-    bits-requires
+    (λ c κs. search needs)
     judge-small-requires
     returns-4
     pack-requires
-    same-length
+    (λ c. search needs)
     returns-5)

@@ -34,9 +34,6 @@ div-least-2 c =
     let s = c .before .before in
     many-octets (s .args .b) (s .pre .0) (s .pre .1)
 
-least-requires : tie.Need-least-requires
-least-requires c κs = search needs
-
 places : (c : tie.After-least) → c .least .result * (4 / c .before .before .before .args .b * 8) ≤ length (c .before .before .before .args .words .now)
 places c =
     let s = c .before .before .before in
@@ -70,14 +67,8 @@ mul-from c = record { fits = lt-of-le-of-lt (numbers (c .before .before .before 
 sub-least : tie.Need-sub-least
 sub-least c = start (c .before .before)
 
-least-requires-2 : tie.Need-least-requires-2
-least-requires-2 c κs = search needs
-
 sub-least-2 : tie.Need-sub-least-2
 sub-least-2 c = numbers (c .before .before .before .before .before)
-
-least-requires-3 : tie.Need-least-requires-3
-least-requires-3 c κs = search needs
 
 number-requires : tie.Need-number-requires
 number-requires c κs =
@@ -94,9 +85,6 @@ add-clear-words c = record { fits = lt-of-le-of-lt (end (c .before .before .befo
 
 clear-words-requires : tie.Need-clear-words-requires
 clear-words-requires c κs = rw (c .before .before .before .spread .kept .0) (end (c .before .before .before .before))
-
-same-length : tie.Need-same-length
-same-length c = search needs
 
 returns : tie.Need-returns
 unfolding unpacked
@@ -122,17 +110,17 @@ unpack-spec =
     mul-len
     div-least
     div-least-2
-    least-requires
+    (λ c κs. search needs)
     unpack-groups-requires
     mul-at
     mul-from
     sub-least
-    least-requires-2
+    (λ c κs. search needs)
     sub-least-2
-    least-requires-3
+    (λ c κs. search needs)
     number-requires
     spread-requires
     add-clear-words
     clear-words-requires
-    same-length
+    (λ c. search needs)
     returns)

@@ -13,9 +13,6 @@ unpack-groups-by-requires c κs =
     let e : s .args .b ≡ 1 = omega arith in
     (lit≤ tt, lit≤ tt, lit≤ tt, rw e at (s .pre .2), rw e at (s .pre .3))
 
-same-length : tie.Need-same-length
-same-length c = search needs
-
 returns : tie.Need-returns
 returns c =
     let e : c .before .before .before .before .before .before .before .args .b ≡ 1 = omega arith in
@@ -26,9 +23,6 @@ unpack-groups-by-requires-2 c κs =
     let s = c .before .before .before .before .before in
     let e : s .args .b ≡ 2 = omega arith in
     (lit≤ tt, lit≤ tt, lit≤ tt, rw e at (s .pre .2), rw e at (s .pre .3))
-
-same-length-2 : tie.Need-same-length-2
-same-length-2 c = search needs
 
 returns-2 : tie.Need-returns-2
 returns-2 c =
@@ -41,9 +35,6 @@ unpack-groups-by-requires-3 c κs =
     let e : s .args .b ≡ 3 = omega arith in
     (lit≤ tt, lit≤ tt, lit≤ tt, rw e at (s .pre .2), rw e at (s .pre .3))
 
-same-length-3 : tie.Need-same-length-3
-same-length-3 c = search needs
-
 returns-3 : tie.Need-returns-3
 returns-3 c =
     let e : c .before .before .before .before .before .before .before .before .before .args .b ≡ 3 = omega arith in
@@ -55,9 +46,6 @@ unpack-groups-by-requires-4 c κs =
     let e : s .args .b ≡ 4 = omega arith in
     (lit≤ tt, lit≤ tt, lit≤ tt, rw e at (s .pre .2), rw e at (s .pre .3))
 
-same-length-4 : tie.Need-same-length-4
-same-length-4 c = search needs
-
 returns-4 : tie.Need-returns-4
 returns-4 c =
     let e : c .before .before .before .before .before .before .before .before .before .args .b ≡ 4 = omega arith in
@@ -68,14 +56,14 @@ unpack-groups-spec =
     tie.close
     (tie.spec
     unpack-groups-by-requires
-    same-length
+    (λ c. search needs)
     returns
     unpack-groups-by-requires-2
-    same-length-2
+    (λ c. search needs)
     returns-2
     unpack-groups-by-requires-3
-    same-length-3
+    (λ c. search needs)
     returns-3
     unpack-groups-by-requires-4
-    same-length-4
+    (λ c. search needs)
     returns-4)

@@ -6,15 +6,6 @@ use borrow.Author.Needs.{needs}
 use Rattle.unpacking.proofs.unpack_groups_by.Statement.{statement}
 use Rattle.unpacking.proofs.unpack_groups_by.Tie as tie
 
-place-groups-requires : tie.Need-place-groups-requires
-place-groups-requires c κs = search needs
-
-spread-groups-requires : tie.Need-spread-groups-requires
-spread-groups-requires c κs = search needs
-
-same-length : tie.Need-same-length
-same-length c = search needs
-
 returns : tie.Need-returns
 returns c =
     let s = c .before .before .before .before .before .before .before .before .before .before in
@@ -26,4 +17,4 @@ returns c =
 
 pub unpack-groups-by-spec : {M : Type 1} → statement M
 unpack-groups-by-spec =
-    tie.close (tie.spec place-groups-requires spread-groups-requires same-length returns)
+    tie.close (tie.spec (λ c κs. search needs) (λ c κs. search needs) (λ c. search needs) returns)

@@ -110,9 +110,6 @@ copy-requires c κs =
     let e : length (c .before .before .before .multiply-add-small2 .last .0) ≡ 8 * a .n = both (c .before .before .before) .as-long ∙ p .0 .0 .room in
     (omega arith, omega arith, inl h)
 
-same-length : tie.Need-same-length
-same-length c = search needs
-
 returns : tie.Need-returns
 returns c =
     let a = c .before .before .before .before .before .before .before .before .before .before .before .before .before .before .before .before .before .before .args in
@@ -135,5 +132,5 @@ fold-last-spec =
     multiply-add-small-requires-2
     mul-copy
     copy-requires
-    same-length
+    (λ c. search needs)
     returns)

@@ -69,9 +69,6 @@ copy-requires c κs =
     let e : length (c .before .before .before .multiply-add-small .last .0) ≡ 8 * a .n = added (c .before .before .before) .as-long ∙ p .0 .0 .room in
     (omega arith, omega arith, inl h)
 
-same-length : tie.Need-same-length
-same-length c = search needs
-
 returns : tie.Need-returns
 returns c =
     let a = c .before .before .before .before .before .before .before .before .before .before .before .before .before .before .args in
@@ -81,4 +78,4 @@ returns c =
 pub fold-term-spec : {M : Type 1} → statement M
 fold-term-spec =
     tie.close
-    (tie.spec mul-load load-requires add-at mul-at mul-multiply-add-small multiply-add-small-requires mul-copy copy-requires same-length returns)
+    (tie.spec mul-load load-requires add-at mul-at mul-multiply-add-small multiply-add-small-requires mul-copy copy-requires (λ c. search needs) returns)

@@ -21,39 +21,6 @@ mul-from c =
     let most : c .before .before .args .n ≤ 4096 = omega arith in
     omega (arith, mul-le-mul few most)
 
-mul-from-2 : tie.Need-mul-from-2
-mul-from-2 c = search needs
-
-mul-end : tie.Need-mul-end
-mul-end c = search needs
-
-add-end : tie.Need-add-end
-add-end c = search needs
-
-add-stop : tie.Need-add-stop
-add-stop c = search needs
-
-sub-decode : tie.Need-sub-decode
-sub-decode c = search needs
-
-part-decode-start : tie.Need-part-decode-start
-part-decode-start c = search needs
-
-part-decode-end : tie.Need-part-decode-end
-part-decode-end c = search needs
-
-mul-decode : tie.Need-mul-decode
-mul-decode c = search needs
-
-sub-decode-2 : tie.Need-sub-decode-2
-sub-decode-2 c = search needs
-
-part-decode-start-2 : tie.Need-part-decode-start-2
-part-decode-start-2 c = search needs
-
-part-decode-end-2 : tie.Need-part-decode-end-2
-part-decode-end-2 c = search needs
-
 decode-requires : tie.Need-decode-requires
 decode-requires c κs =
     let a = c .before .before .before .before .args in
@@ -63,9 +30,6 @@ decode-requires c κs =
       length-borrowed (a .element * a .n * a .qlen) (a .n * a .qlen) (a .octets .now) (p .2)
           ∙ ap (λ (m : ℕ). m * a .qlen) (sym (length-borrowed (a .at) (a .n) (a .work .now) (p .3))),
     )
-
-same-length : tie.Need-same-length
-same-length c = search needs
 
 returns : tie.Need-returns
 returns c =
@@ -83,17 +47,17 @@ load-spec =
     tie.close
     (tie.spec
     mul-from
-    mul-from-2
-    mul-end
-    add-end
-    add-stop
-    sub-decode
-    part-decode-start
-    part-decode-end
-    mul-decode
-    sub-decode-2
-    part-decode-start-2
-    part-decode-end-2
+    (λ c. search needs)
+    (λ c. search needs)
+    (λ c. search needs)
+    (λ c. search needs)
+    (λ c. search needs)
+    (λ c. search needs)
+    (λ c. search needs)
+    (λ c. search needs)
+    (λ c. search needs)
+    (λ c. search needs)
+    (λ c. search needs)
     decode-requires
-    same-length
+    (λ c. search needs)
     returns)

@@ -38,15 +38,6 @@ add-stop c = let a = c .before .before .args in omega (arith, few (a .d) (a .n) 
 slice-aggregate-decode : tie.Need-slice-aggregate-decode
 slice-aggregate-decode c = simp length-take (omega arith)
 
-mul-decode : tie.Need-mul-decode
-mul-decode c = search needs
-
-sub-decode : tie.Need-sub-decode
-sub-decode c = search needs
-
-part-decode-start : tie.Need-part-decode-start
-part-decode-start c = search needs
-
 part-decode-end : tie.Need-part-decode-end
 part-decode-end c = let a = c .before .before .before .args in omega (arith, few (a .d) (a .n) (omega arith))
 
@@ -59,9 +50,6 @@ decode-requires c κs =
       p .0 .octets-most,
       length-take-le ((a .d + 1) * a .n * a .qlen) (a .octets .now) (p .2) ∙ ap (λ (m : ℕ). m * a .qlen) (sym (length-borrowed (2 * a .n) ((a .d + 1) * a .n) (a .work .now) inside)),
     )
-
-same-length : tie.Need-same-length
-same-length c = search needs
 
 returns : tie.Need-returns
 returns c =
@@ -88,10 +76,10 @@ load-highest-spec =
     mul-at
     add-stop
     slice-aggregate-decode
-    mul-decode
-    sub-decode
-    part-decode-start
+    (λ c. search needs)
+    (λ c. search needs)
+    (λ c. search needs)
     part-decode-end
     decode-requires
-    same-length
+    (λ c. search needs)
     returns)

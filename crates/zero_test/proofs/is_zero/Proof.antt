@@ -12,9 +12,6 @@ use Rattle.zero_test.proofs.Laws.{is-zero-set, is-zero-secret-length, i
 use Rattle.zero_test.proofs.is_zero.Statement.{statement}
 use Rattle.zero_test.proofs.is_zero.Tie as tie
 
-refusal-requires : tie.Need-refusal-requires
-refusal-requires c κs = search needs
-
 returns : tie.Need-returns
 returns c =
     let a = c .before .before .before .before .before .args in
@@ -24,9 +21,6 @@ accepted : (c : tie.Else1) → AcceptedSet (setFrom (c .before .before .before .
 accepted c = sym (c .before .refusal .ensures) ∙ c .if1 .left
 
 -- ---- the lengths
-
-secret-length-requires : tie.Need-secret-length-requires
-secret-length-requires c κs = search needs
 
 returns-2 : tie.Need-returns-2
 returns-2 c =
@@ -40,9 +34,6 @@ returns-3 : tie.Need-returns-3
 returns-3 c =
     let a = c .before .before .before .before .before .before .before .before .before .args in
     is-zero-public-length (setFrom (a .p)) (a .secret .now) (a .public .now) (a .zero .now) (a .work .now) (accepted (c .before .before .before .before)) (c .before .public-length .ensures) (c .if3 .taken)
-
-work-length-requires : tie.Need-work-length-requires
-work-length-requires c κs = search needs
 
 returns-4 : tie.Need-returns-4
 returns-4 c =
@@ -64,9 +55,6 @@ exact c =
 tested-requires : tie.Need-tested-requires
 tested-requires c κs = exact (c .before .before)
 
-cleared-requires : tie.Need-cleared-requires
-cleared-requires c κs = search needs
-
 same-length : tie.Need-same-length
 same-length c = c .before .before .cleared .kept .0 ∙ c .before .before .before .before .before .before .tested .kept .1 .1 .1 .0
 
@@ -81,15 +69,15 @@ pub is-zero-spec : {M : Type 1} → statement M
 is-zero-spec =
     tie.close
     (tie.spec
-    refusal-requires
+    (λ c κs. search needs)
     returns
-    secret-length-requires
+    (λ c κs. search needs)
     returns-2
     public-length-requires
     returns-3
-    work-length-requires
+    (λ c κs. search needs)
     returns-4
     tested-requires
-    cleared-requires
+    (λ c κs. search needs)
     same-length
     returns-5)

@@ -11,9 +11,6 @@ use Rattle.zero_test.proofs.Laws.{tested-refused, tested-accepted}
 use Rattle.zero_test.proofs.tested.Statement.{statement}
 use Rattle.zero_test.proofs.tested.Tie as tie
 
-cast-value : tie.Need-cast-value
-cast-value c = search needs
-
 value-requires : tie.Need-value-requires
 value-requires c κs = c .before .before .before .before .before .pre
 
@@ -22,15 +19,6 @@ same-length c = c .before .before .before .value .kept .1 .1 .1 .1 .0
 
 returns : tie.Need-returns
 returns c = tested-refused _ _ _ (c .before .before .before .value .ensures) _ (c .if1 .taken)
-
-cast-n : tie.Need-cast-n
-cast-n c = search needs
-
-mul-from : tie.Need-mul-from
-mul-from c = search needs
-
-add-end : tie.Need-add-end
-add-end c = search needs
 
 vanishes-requires : tie.Need-vanishes-requires
 unfolding workLength
@@ -48,13 +36,13 @@ pub tested-spec : {M : Type 1} → statement M
 tested-spec =
     tie.close
     (tie.spec
-    cast-value
+    (λ c. search needs)
     value-requires
     same-length
     returns
-    cast-n
-    mul-from
-    add-end
+    (λ c. search needs)
+    (λ c. search needs)
+    (λ c. search needs)
     vanishes-requires
     same-length-2
     returns-2)

@@ -9,9 +9,6 @@ use Rattle.parameters.specs.Answers.{setAnswer}
 use Rattle.parameters.proofs.Parameters.new.Statement.{statement}
 use Rattle.parameters.proofs.Parameters.new.Tie as tie
 
-refusal-requires : tie.Need-refusal-requires
-refusal-requires c κs = search needs
-
 returns : tie.Need-returns
 unfolding setAnswer firstRefusal
 returns c = sym (answer-accepted _ [] _ (sym (c .before .refusal .ensures) ∙ c .if1 .taken) refl)
@@ -21,4 +18,4 @@ unfolding setAnswer
 returns-2 c = sym (answer-untouched-at _ [] _ _ (c .if1 .left) (sym (c .before .refusal .ensures)))
 
 pub new-spec : {M : Type 1} → statement M
-new-spec = tie.close (tie.spec refusal-requires returns returns-2)
+new-spec = tie.close (tie.spec (λ c κs. search needs) returns returns-2)

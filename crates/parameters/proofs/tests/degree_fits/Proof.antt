@@ -6,12 +6,6 @@ use Rattle.definitions.specs.Parameters.{degreeFits}
 use Rattle.parameters.proofs.tests.degree_fits.Statement.{statement}
 use Rattle.parameters.proofs.tests.degree_fits.Tie as tie
 
-is-degree-requires : tie.Need-is-degree-requires
-is-degree-requires c κs = search needs
-
-is-degree-requires-2 : tie.Need-is-degree-requires-2
-is-degree-requires-2 c κs = search needs
-
 returns : tie.Need-returns
 unfolding degreeFits
 returns c = c .is-degree2 .ensures ∙ rw (← c .before .before .is-degree .ensures, c .before .if1 .taken)
@@ -21,4 +15,4 @@ unfolding degreeFits
 returns-2 c = rw (← c .before .is-degree .ensures, c .if1 .left)
 
 pub degree-fits-spec : {M : Type 1} → statement M
-degree-fits-spec = tie.close (tie.spec is-degree-requires is-degree-requires-2 returns returns-2)
+degree-fits-spec = tie.close (tie.spec (λ c κs. search needs) (λ c κs. search needs) returns returns-2)

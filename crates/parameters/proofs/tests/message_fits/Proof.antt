@@ -10,18 +10,6 @@ use Rattle.parameters.proofs.Bounds.{smallBits-within}
 use Rattle.parameters.proofs.tests.message_fits.Statement.{statement}
 use Rattle.parameters.proofs.tests.message_fits.Tie as tie
 
-bits-requires : tie.Need-bits-requires
-bits-requires c κs = search needs
-
-cast-if1 : tie.Need-cast-if1
-cast-if1 c = search needs
-
-cast-if1-2 : tie.Need-cast-if1-2
-cast-if1-2 c = search needs
-
-cast-if1-3 : tie.Need-cast-if1-3
-cast-if1-3 c = search needs
-
 mul-if1 : tie.Need-mul-if1
 mul-if1 c =
     let n : c .before .before .before .args .p .n ≤ 4294967295 = omega arith in
@@ -41,4 +29,4 @@ unfolding messageFits
 returns-2 c = rw (← c .before .before .before .bits .ensures) (rw (lt-leb _ _ (c .if1 .left)))
 
 pub message-fits-spec : {M : Type 1} → statement M
-message-fits-spec = tie.close (tie.spec bits-requires cast-if1 cast-if1-2 cast-if1-3 mul-if1 rem-result returns returns-2)
+message-fits-spec = tie.close (tie.spec (λ c κs. search needs) (λ c. search needs) (λ c. search needs) (λ c. search needs) mul-if1 rem-result returns returns-2)
