@@ -20,16 +20,16 @@ module _ (p : Parameters) (public secret : List ℕ) (z : Zero p public secret) 
   at f = value (p .n) (degree p) f (secretX p secret) (secretY p secret)
 
   abbrev multiple : Polynomial
-  multiple = productOf (p .n) (p .dx) (p .dr) (polynomialFrom p (p .dx) public) r
+  multiple = productOf (p .n) (p .dx) (p .dr) (polynomialFrom p public) r
 
-  differs-congruent : CongAt (p .q) (p .n) (degree p) (polynomialFrom p (degree p) c) (sumOf (polynomialFrom p (degree p) d) multiple)
+  differs-congruent : CongAt (p .q) (p .n) (degree p) (polynomialFrom p c) (sumOf (polynomialFrom p d) multiple)
   unfolding sumOf add
   differs-congruent i l k s = record { same = differs i l k s }
 
-  values-alike : (k : ℕ) → Cong (p .q) (at (polynomialFrom p (degree p) c) k) (at (polynomialFrom p (degree p) d) k)
+  values-alike : (k : ℕ) → Cong (p .q) (at (polynomialFrom p c) k) (at (polynomialFrom p d) k)
   values-alike k =
       cong-trans (value-cong-modulo (p .n) (degree p) (secretX p secret) (secretY p secret) differs-congruent k)
-      (cong-trans (cong-of-eq (value-add (p .n) (degree p) (polynomialFrom p (degree p) d) multiple _ _ k))
+      (cong-trans (cong-of-eq (value-add (p .n) (degree p) (polynomialFrom p d) multiple _ _ k))
       (cong-trans (cong-add cong-refl (product-vanishes (p .q) (p .n) (p .dx) (p .dr) _ r _ _ (z .vanishes) k)) (cong-of-eq (omega arith))))
 
   decrypted-alike : (k : ℕ) → k < p .n → decryptedFrom p secret c k ≡ decryptedFrom p secret d k

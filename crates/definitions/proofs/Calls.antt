@@ -1,6 +1,7 @@
 -- Why a call is accepted: an accepted set leaves its first tests to the lengths, and each later test is then read as a fact.
 --
 --   lengthTests-..    what the tests up to the length test give
+--   ..Exact-told      the lengths of a call's buffers, each
 --   answer-exact      the answer where no later test applies
 --   Zero              what the zero test's yes says, a field for each test;  zero-told, zero-of: that it does
 --   ..Told            what an accepted call says, a field for each test and for its output
@@ -13,12 +14,12 @@ use borrow.Author.Tests.{eqb-true, not-false, eq-eqb}
 use lib.Dec.{ltb, lit<}
 use lib.ListN.{length, drop}
 use Rattle.definitions.specs.Refusals.{Test, firstRefusal, untouched, accepted, answer}
-use Rattle.definitions.specs.Parameters.{Parameters, degree, setTests, monomialCount, smallLength, secretLength, publicLength, messageLength, workLength}
+use Rattle.definitions.specs.Parameters.{Parameters, degree, setTests, monomialCount, smallLength, secretLength, publicLength, ciphertextLength, messageLength, workLength}
 use Rattle.definitions.specs.Ring.{modulo}
 use Rattle.definitions.specs.Monomials.{polynomialOf, value}
 use Rattle.definitions.specs.Octets.{paddingClear}
 use Rattle.definitions.specs.Draws.{secretDrawn}
-use Rattle.definitions.specs.Calls.{KeyPair, Encrypted, smallOf, secretX, secretY, polynomialFrom, octetsFrom, secretPadded, elementsFit, lengthTests, keyDraws, keyPairOf, keygenAnswer, isZeroAt, isZeroAnswer, maskDraws, noiseOf, encryptedWith, maskLength, encryptAnswer, sumModulo, addAnswer}
+use Rattle.definitions.specs.Calls.{KeyPair, Encrypted, smallOf, secretX, secretY, polynomialFrom, octetsFrom, secretBitsClear, elementsFit, lengthTests, keysExact, encryptExact, addExact, decryptExact, keyDraws, keyPairOf, keygenAnswer, isZeroAt, isZeroAnswer, maskDraws, noiseOf, encryptedWith, maskLength, encryptAnswer, sumModulo, addAnswer}
 use Rattle.definitions.specs.Demand3.{AcceptedSet, ZeroOf}
 use Rattle.definitions.proofs.Sums.{every-true, every-at}
 use Rattle.definitions.proofs.Tests.{both-true, neither-true}
@@ -43,38 +44,72 @@ pub answer-exact : {A : Type 0} (p : Parameters) → AcceptedSet p → (exact : 
 answer-exact p set true later a e = answer-accepted (lengthTests p true) later a (lengthTests-decide p set true) e
 answer-exact p set false later a e = answer-untouched (lengthTests p false) later a 5 (lengthTests-decide p set false)
 
+-- ---- lengths that are exact
+
+module _ (p : Parameters) where
+  pub keysExact-told : {s k w : ℕ} → keysExact p s k w ≡ true → (s ≡ secretLength p) × (k ≡ publicLength p) × (w ≡ workLength p)
+  unfolding keysExact
+  keysExact-told e =
+      let a = both-true _ _ e in
+      let b = both-true _ _ (a .1) in
+      (eqb-true _ _ (a .0), eqb-true _ _ (b .0), eqb-true _ _ (b .1))
+
+  pub encryptExact-told : {k m c w : ℕ} → encryptExact p k m c w ≡ true
+      → (k ≡ publicLength p) × (m ≡ messageLength p) × (c ≡ ciphertextLength p) × (w ≡ workLength p)
+  unfolding encryptExact
+  encryptExact-told e =
+      let a = both-true _ _ e in
+      let b = both-true _ _ (a .1) in
+      let d = both-true _ _ (b .1) in
+      (eqb-true _ _ (a .0), eqb-true _ _ (b .0), eqb-true _ _ (d .0), eqb-true _ _ (d .1))
+
+  pub addExact-told : {a b s : ℕ} → addExact p a b s ≡ true → (a ≡ ciphertextLength p) × (b ≡ ciphertextLength p) × (s ≡ ciphertextLength p)
+  unfolding addExact
+  addExact-told e =
+      let a = both-true _ _ e in
+      let b = both-true _ _ (a .1) in
+      (eqb-true _ _ (a .0), eqb-true _ _ (b .0), eqb-true _ _ (b .1))
+
+  pub decryptExact-told : {s c m w : ℕ} → decryptExact p s c m w ≡ true
+      → (s ≡ secretLength p) × (c ≡ ciphertextLength p) × (m ≡ messageLength p) × (w ≡ workLength p)
+  unfolding decryptExact
+  decryptExact-told e =
+      let a = both-true _ _ e in
+      let b = both-true _ _ (a .1) in
+      let d = both-true _ _ (b .1) in
+      (eqb-true _ _ (a .0), eqb-true _ _ (b .0), eqb-true _ _ (d .0), eqb-true _ _ (d .1))
+
 -- ---- the zero test
 
 pub record Zero (p : Parameters) (public secret : List ℕ) : Type 0 where
   pub set : AcceptedSet p
   pub secret-exact : length secret ≡ secretLength p
   pub public-exact : length public ≡ publicLength p
-  pub padded : secretPadded p secret ≡ true
+  pub padded : secretBitsClear p secret ≡ true
   pub fits : elementsFit p (monomialCount (p .dx)) public ≡ true
   pub vanishes :
       (k : ℕ) → k < p .n →
-      value (p .n) (p .dx) (polynomialFrom p (p .dx) public) (secretX p secret) (secretY p secret) k % p .q ≡ 0
+      value (p .n) (p .dx) (polynomialFrom p public) (secretX p secret) (secretY p secret) k % p .q ≡ 0
 
 pub zero-told : (p : Parameters) (public secret : List ℕ) → ZeroOf p public secret → Zero p public secret
 unfolding isZeroAnswer isZeroAt modulo
 zero-told p public secret e =
     let told = answer-accepted-only _ _ _ true e in
     let first = lengthTests-passed p _ (told .0) in
-    let lengths = both-true _ _ (first .1) in
-    let rest = both-true _ _ (lengths .1) in
+    let lengths = keysExact-told p (first .1) in
     let padding = firstRefusal-passed 7 _ _ (lit< tt) (told .1) in
     let inside = firstRefusal-passed 8 _ _ (lit< tt) (padding .1) in
     record {
       set = first .0;
-      secret-exact = eqb-true _ _ (lengths .0);
-      public-exact = eqb-true _ _ (rest .0);
+      secret-exact = lengths .0;
+      public-exact = lengths .1;
       padded = not-false _ (padding .0);
       fits = not-false _ (inside .0);
       vanishes = λ k l. eqb-true _ _ (every-at (p .n) _ (told .2) l);
     }
 
 pub zero-of : (p : Parameters) (public secret : List ℕ) → Zero p public secret → ZeroOf p public secret
-unfolding isZeroAnswer isZeroAt modulo firstRefusal
+unfolding isZeroAnswer isZeroAt modulo firstRefusal keysExact
 zero-of p public secret z =
     rw (
       eq-eqb (length secret) (secretLength p) (z .secret-exact),
@@ -115,7 +150,7 @@ pub record EncryptTold (p : Parameters) (public message random : List ℕ) (e : 
   pub fits : elementsFit p (monomialCount (p .dx)) public ≡ true
   pub encrypted :
       octetsFrom p (degree p)
-      (encryptedWith p (polynomialFrom p (p .dx) public) (smallOf p message) (polynomialOf (p .n) (maskDraws p random .values))
+      (encryptedWith p (polynomialFrom p public) (smallOf p message) (polynomialOf (p .n) (maskDraws p random .values))
       (noiseOf p (drop (maskLength p random) random)))
       ≡ e .ciphertext
 
@@ -125,14 +160,13 @@ unfolding encryptAnswer
 encrypt-told p public message random ciphertextLen workLen e given =
     let told = answer-accepted-only _ _ _ e given in
     let first = lengthTests-passed p _ (told .0) in
-    let lengths = both-true _ _ (first .1) in
-    let rest = both-true _ _ (lengths .1) in
+    let lengths = encryptExact-told p (first .1) in
     let padding = firstRefusal-passed 7 _ _ (lit< tt) (told .1) in
     let inside = firstRefusal-passed 8 _ _ (lit< tt) (padding .1) in
     record {
       set = first .0;
-      public-exact = eqb-true _ _ (lengths .0);
-      message-exact = eqb-true _ _ (rest .0);
+      public-exact = lengths .0;
+      message-exact = lengths .1;
       padded = not-false _ (padding .0);
       fits = not-false _ (inside .0);
       encrypted = ap (λ (x : Encrypted). x .ciphertext) (told .2);
@@ -144,7 +178,7 @@ pub record AddTold (p : Parameters) (a b c : List ℕ) : Type 0 where
   pub set : AcceptedSet p
   pub left-fits : elementsFit p (monomialCount (degree p)) a ≡ true
   pub right-fits : elementsFit p (monomialCount (degree p)) b ≡ true
-  pub added : octetsFrom p (degree p) (sumModulo p (polynomialFrom p (degree p) a) (polynomialFrom p (degree p) b)) ≡ c
+  pub added : octetsFrom p (degree p) (sumModulo p (polynomialFrom p a) (polynomialFrom p b)) ≡ c
 
 pub add-told : (p : Parameters) (a b : List ℕ) (sumLen : ℕ) (c : List ℕ) → addAnswer p a b sumLen ≡ accepted c → AddTold p a b c
 unfolding addAnswer

@@ -18,7 +18,7 @@ use lib.ListN.{length}
 use Rattle.definitions.specs.Refusals.{firstRefusal}
 use Rattle.definitions.specs.Parameters.{Parameters, smallBits, secretLength, ciphertextLength, messageLength, workLength}
 use Rattle.definitions.specs.Ring.{Element, modulo}
-use Rattle.definitions.specs.Calls.{tailClear, messageOf, decryptedFrom, decryptAnswer}
+use Rattle.definitions.specs.Calls.{tailClear, messageOf, decryptedFrom, decryptAnswer, decryptExact}
 use Rattle.definitions.specs.Demand3.{WellFormed, ZeroPastMessage, DecryptsTo}
 use Rattle.definitions.proofs.Sums.{every-true, every-cong, tabulate-cong}
 use Rattle.definitions.proofs.Tests.{either-first, either-second}
@@ -46,7 +46,7 @@ tailClear-true p m tail =
 pub decrypts-alike : (p : Parameters) (secret c d : List ℕ) → WellFormed p c → WellFormed p d
     → ((k : ℕ) → k < p .n → decryptedFrom p secret c k ≡ decryptedFrom p secret d k)
     → (messageLen workLen : ℕ) → decryptAnswer p secret c messageLen workLen ≡ decryptAnswer p secret d messageLen workLen
-unfolding decryptAnswer
+unfolding decryptAnswer decryptExact
 decrypts-alike p secret c d wc wd same messageLen workLen =
     rw (
       eq-eqb (length c) (ciphertextLength p) (wc .exact),
@@ -60,7 +60,7 @@ decrypts-alike p secret c d wc wd same messageLen workLen =
 pub decrypts-to : (p : Parameters) (public secret c : List ℕ) (places : Element) → Zero p public secret → WellFormed p c → ZeroPastMessage p places
     → ((k : ℕ) → k < p .n → decryptedFrom p secret c k ≡ modulo (p .l) places k)
     → DecryptsTo p secret c places
-unfolding decryptAnswer firstRefusal
+unfolding decryptAnswer decryptExact firstRefusal
 decrypts-to p public secret c places z w tail same messageLen workLen =
     rw (
       eq-eqb (length secret) (secretLength p) (z .secret-exact),

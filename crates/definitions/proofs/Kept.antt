@@ -38,7 +38,7 @@ pub record Kept (p : Parameters) (public c : List ℕ) (entry : Entry) : Type 0 
   pub counted : 1 ≤ entry .count
   pub well-formed : WellFormed p c
   pub tail : ZeroPastMessage p (entry .places)
-  pub represents : RepresentsEntry p public (polynomialFrom p (degree p) c) entry
+  pub represents : RepresentsEntry p public (polynomialFrom p c) entry
 
 pub kept-holds : (p : Parameters) (public c : List ℕ) (entry : Entry) → Kept p public c entry → EntryHolds p public c entry
 unfolding decryptedFrom decryptedElement decryptedValue modulo
@@ -59,7 +59,7 @@ module _ (p : Parameters) (a : Accepted p) where
   octetsFrom-formed f h = record { exact = octetsFrom-length p a (degree p) f; fits = octetsFrom-fits p a (degree p) f h }
 
   octetsFrom-congruent : (f : Polynomial) → InRings (p .q) (p .n) (monomialCount (degree p)) f
-      → CongAt (p .q) (p .n) (degree p) f (polynomialFrom p (degree p) (octetsFrom p (degree p) f))
+      → CongAt (p .q) (p .n) (degree p) f (polynomialFrom p (octetsFrom p (degree p) f))
   octetsFrom-congruent f h i l k s = cong-of-eq (sym (polynomialFrom-octetsFrom p a (degree p) f h l s))
 
   at-most : (b : Element) → InRing (p .l) (p .n) b → AtMost (p .l - 1) (p .n) b
@@ -116,7 +116,7 @@ module _ (p : Parameters) (a : Accepted p) where
     pub kept-encrypted : (message random : List ℕ) (e : Encrypted) → EncryptTold p public message random e
         → Kept p public (e .ciphertext) (record { count = 1; places = smallOf p message })
     kept-encrypted message random e told =
-        let key : Polynomial = polynomialFrom p (p .dx) public in
+        let key : Polynomial = polynomialFrom p public in
         let r : Polynomial = polynomialOf (p .n) (maskDraws p random .values) in
         let later : List ℕ = drop (maskLength p random) random in
         kept-octets _ _ (e .ciphertext) (told .encrypted) (encryptedWith-below key (smallOf p message) r (noiseOf p later) _) (le-refl 1)

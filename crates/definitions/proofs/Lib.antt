@@ -1,5 +1,4 @@
 -- Laws of the definitions, and from Represents on the proof of demand 3.
-pub mod WorkedCases
 pub mod Sums
 pub mod Filling
 pub mod Powers
@@ -19,8 +18,7 @@ pub mod Elements
 pub mod Small
 pub mod Calls
 pub mod Exits
-pub mod Conversions
-pub mod RoundTrips
+pub mod Order
 pub mod Represents
 pub mod Decryption
 pub mod Zeros
@@ -29,4 +27,4 @@ pub mod Kept
 pub mod Ledger
 pub mod Alike
 pub mod Corollaries
-pub mod Witness
+pub mod Computed

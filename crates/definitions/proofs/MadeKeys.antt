@@ -22,9 +22,9 @@ use Rattle.definitions.proofs.Parameters.{Accepted, accepted-set, modul
 use Rattle.definitions.proofs.Monomials.{monomialCount-pos}
 use Rattle.definitions.proofs.Octets.{AllBelow, below-append, length-encoded}
 use Rattle.definitions.proofs.Draws.{draws-values-below, draws-values-length}
-use Rattle.definitions.proofs.Elements.{decodedElements-encoded, elementsFit-encoded}
+use Rattle.definitions.proofs.Elements.{polynomialFrom-encoded, elementsFit-encoded}
 use Rattle.definitions.proofs.Small.{unpacked-small}
-use Rattle.definitions.proofs.Values.{value-split, valueOver-cong}
+use Rattle.definitions.proofs.Values.{value-split, value-cong, valueOver-cong}
 use Rattle.definitions.proofs.Represents.{Vanishes}
 use Rattle.definitions.proofs.Calls.{keygen-told}
 use Rattle.definitions.proofs.Zeros.{vanishes-zero}
@@ -68,9 +68,9 @@ module _ (p : Parameters) (a : Accepted p) (ux uy : Element) (others : List ℕ)
       )
       (negated-sum (p .q) _ (modulus-positive p a))
 
-  key-read : AllBelow (p .q) others → polynomialFrom p (p .dx) (encoded (qlen (p .q)) (keyCoefficients p ux uy others)) ≡ polynomialOf (p .n) (keyCoefficients p ux uy others)
-  unfolding polynomialFrom
-  key-read below = ap (polynomialOf (p .n)) (decodedElements-encoded p a (monomialCount (p .dx)) (keyCoefficients p ux uy others) coefficients-length (coefficients-below below))
+  key-read : AllBelow (p .q) others → (i : ℕ) → i < monomialCount (p .dx) → (k : ℕ) → k < p .n
+      → polynomialFrom p (encoded (qlen (p .q)) (keyCoefficients p ux uy others)) i k ≡ polynomialOf (p .n) (keyCoefficients p ux uy others) i k
+  key-read below i l k s = polynomialFrom-encoded p a (monomialCount (p .dx)) _ coefficients-length (coefficients-below below) l s
 
   key-length : length (encoded (qlen (p .q)) (keyCoefficients p ux uy others)) ≡ publicLength p
   unfolding publicLength elementsLength
@@ -85,7 +85,7 @@ module _ (p : Parameters) (set : AcceptedSet p) (ux uy others : List ℕ) (hx : 
       let y : Element = elementOf uy in
       vanishes-zero p set _ ux uy hx hy (key-length p a x y others sized)
       (elementsFit-encoded p a (monomialCount (p .dx)) _ (coefficients-length p a x y others sized) (coefficients-below p a x y others sized below))
-      (rw (key-read p a x y others sized below) (key-vanishes p a x y others sized))
+      (λ k s. rw (value-cong (p .n) (p .dx) x y (key-read p a x y others sized below) k) (key-vanishes p a x y others sized k s))
 
 drawn-length : (p : Parameters) (random : List ℕ) → keyDraws p random .enough ≡ true → length (keyDraws p random .values) ≡ (monomialCount (p .dx) - 1) * p .n
 unfolding keyDraws

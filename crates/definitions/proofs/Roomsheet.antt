@@ -7,7 +7,7 @@
 -- Assumes nothing.
 use Prim.Native.Nat.{ℕ, zero, suc, _+_, _-_, _*_, _/_, _%_, _^_, _≤_, _<_}
 use mathlib.Core.Path.{_≡_, refl, ap, ap₂, _∙_}
-use mathlib.Core.Bool.{Bool, true, cond, _||_, or-true}
+use mathlib.Core.Bool.{Bool, true, false, cond, _||_, or-true}
 use mathlib.Core.List.{_∷_}
 use native.Mathlib.Nat.{add-sub-cancel-left, zero-mul, zero-add, pow-succ', pow-le-pow-right, one-le-pow, mod-eq-of-lt, le-trans, suc-sub-suc, sub-zero, mul-one, add-zero, div-lt-iff-lt-mul, le-div-iff-mul-le}
 use native.Mathlib.Decide.{decLt}
@@ -17,7 +17,9 @@ use lib.Dec.{leb, eqb}
 use lib.Arith.{mod-mul}
 use lib.ListN.{length, getD}
 use Rattle.definitions.specs.Sequences.{sum, every, joined, howMany, tabulate}
-use Rattle.definitions.specs.Roomsheet.{Text, split, linesOf, isDigit, decimalFrom, decimal, isNumber, decimalLength, decimalText, wellFormed, lineAnswer, roomsheet}
+use Rattle.definitions.specs.Refusals.{firstRefusal, answer}
+use Rattle.definitions.specs.Parameters.{limitsAnswer}
+use Rattle.definitions.specs.Roomsheet.{Text, split, linesOf, isDigit, decimalFrom, decimal, isNumber, decimalLength, decimalText, wellFormed, numbersOf, setOf, limitsText, lineLimits, lineAnswer, roomsheet}
 use Rattle.definitions.proofs.Sums.{sum-cong, sum-const, every-true, length-tabulate, getD-tabulate, tabulate-cong}
 
 -- ---- how many digits
@@ -145,7 +147,18 @@ isNumber-decimalText x h =
       le-leb 1 (length (decimalText x)) (omega (arith, length-decimalText x, decimalLength-positive x)),
     )
 
+-- a line is answered by its form first, then by its set
+module _ (line : Text) where
+  pub lineAnswer-malformed : wellFormed 6 line ≡ false → lineAnswer line ≡ decimalText 11
+  unfolding lineAnswer lineLimits limitsText answer firstRefusal
+  lineAnswer-malformed e = rw e
+
+  pub lineAnswer-set : wellFormed 6 line ≡ true → lineAnswer line ≡ limitsText (limitsAnswer (setOf (numbersOf line)))
+  unfolding lineAnswer lineLimits limitsAnswer answer firstRefusal
+  lineAnswer-set e = rw e
+
 -- an empty line is malformed: it is answered like any other, by 11
 pub roomsheet-empty-line : (text : Text) → roomsheet (10 ∷ text) ≡ 49 ∷ 49 ∷ 10 ∷ roomsheet text
-unfolding roomsheet linesOf lineAnswer wellFormed split joined decimalText decimalLength howMany sum tabulate
+unfolding
+    roomsheet linesOf lineAnswer lineLimits limitsText answer firstRefusal wellFormed split joined decimalText decimalLength howMany sum tabulate
 roomsheet-empty-line text = refl

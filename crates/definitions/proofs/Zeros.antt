@@ -16,7 +16,7 @@ use Rattle.definitions.proofs.Small.{secretOf-length, secretOf-padded, 
 
 module _ (p : Parameters) (set : AcceptedSet p) (public ux uy : List ℕ) (hx : InSmallRing p ux) (hy : InSmallRing p uy) where
   abbrev vanishes : Type 0
-  vanishes = Vanishes (p .q) (p .n) (p .dx) (polynomialFrom p (p .dx) public) (elementOf ux) (elementOf uy)
+  vanishes = Vanishes (p .q) (p .n) (p .dx) (polynomialFrom p public) (elementOf ux) (elementOf uy)
 
   pub vanishes-zero : length public ≡ publicLength p → elementsFit p (monomialCount (p .dx)) public ≡ true → vanishes → ZeroOf p public (secretOf p ux uy)
   vanishes-zero exact fits zero =

@@ -4,12 +4,14 @@
 --
 --   smallOf          the small element packed in some octets
 --   secretX, secretY u_x and u_y of a secret's octets
+--   polynomialIn     the polynomial in some octets: n coefficients of so many octets each to an element
 --   polynomialFrom   the polynomial over R_q in some octets
 --   octetsFrom       the octets of a polynomial
 --   decodedElements  the coefficients of so many elements from octets
---   secretPadded     whether both halves of a secret have zero in their unused bits
+--   secretBitsClear     whether both halves of a secret have zero in their unused bits
 --   elementsFit      whether each of so many elements' coefficients is below q
 --   lengthTests      the tests up to the length test
+--   keysExact        whether both keys and the work words have their exact lengths;  encryptExact, addExact, decryptExact: the buffers of each
 --   keyDraws         the elements drawn for a key;  keyConstant, keyPairOf: its constant, and the octets of both keys
 --   maskDraws        the elements drawn for r;  noiseOf: those of e;  encryptedWith: m + X × r + ℓ × e
 --   decryptedValue   w;  decryptedElement: w modulo ℓ;  tailClear: the tail test;  messageOf: the octets of a message
@@ -30,7 +32,7 @@ use Rattle.definitions.specs.Refusals.{Test, refuse, Answer, answer, num
 use Rattle.definitions.specs.Parameters.{Parameters, degree, smallBits, setTests, qlen, monomialCount, smallLength, secretLength, publicLength, ciphertextLength, messageLength, workLength}
 use Rattle.definitions.specs.Ring.{Element, elementOf, modulo, scale}
 use Rattle.definitions.specs.Monomials.{Polynomial, polynomialOf, coefficientsOf, constantTerm, sumOf, productOf, valueOver, value}
-use Rattle.definitions.specs.Octets.{decoded, encoded, coefficientsFit, unpacked, packed, paddingClear}
+use Rattle.definitions.specs.Octets.{coefficientAt, decoded, encoded, coefficientsFit, unpacked, packed, paddingClear}
 use Rattle.definitions.specs.Draws.{Drawn, candidates, draws, secretDrawn, noiseDrawn}
 
 -- ---- octets to ring elements and back
@@ -47,14 +49,17 @@ secretY p secret = smallOf p (drop (smallLength p) secret)
 unfoldable pub decodedElements : Parameters → ℕ → List ℕ → List ℕ
 decodedElements p elements octets = decoded (qlen (p .q)) (elements * p .n) octets
 
-unfoldable pub polynomialFrom : Parameters → ℕ → List ℕ → Polynomial
-polynomialFrom p d octets = polynomialOf (p .n) (decodedElements p (monomialCount d) octets)
+abbrev pub polynomialIn : ℕ → ℕ → List ℕ → Polynomial
+polynomialIn n len octets i k = coefficientAt len octets (i * n + k)
+
+abbrev pub polynomialFrom : Parameters → List ℕ → Polynomial
+polynomialFrom p = polynomialIn (p .n) (qlen (p .q))
 
 unfoldable pub octetsFrom : Parameters → ℕ → Polynomial → List ℕ
 octetsFrom p d f = encoded (qlen (p .q)) (coefficientsOf (p .n) (monomialCount d) f)
 
-unfoldable pub secretPadded : Parameters → List ℕ → Bool
-secretPadded p secret =
+unfoldable pub secretBitsClear : Parameters → List ℕ → Bool
+secretBitsClear p secret =
     paddingClear (p .n * smallBits (p .l)) (take (smallLength p) secret)
     && paddingClear (p .n * smallBits (p .l)) (drop (smallLength p) secret)
 
@@ -64,6 +69,24 @@ elementsFit p elements octets = coefficientsFit (p .q) (decodedElements p elemen
 -- the tests up to the length test, which applies where a length is not the exact one
 unfoldable pub lengthTests : Parameters → Bool → List Test
 lengthTests p exact = setTests p ++ (refuse 6 (not exact) ∷ [])
+
+unfoldable pub keysExact : Parameters → ℕ → ℕ → ℕ → Bool
+keysExact p secretLen publicLen workLen =
+    eqb secretLen (secretLength p) && (eqb publicLen (publicLength p) && eqb workLen (workLength p))
+
+unfoldable pub encryptExact : Parameters → ℕ → ℕ → ℕ → ℕ → Bool
+encryptExact p publicLen messageLen ciphertextLen workLen =
+    eqb publicLen (publicLength p)
+    && (eqb messageLen (messageLength p) && (eqb ciphertextLen (ciphertextLength p) && eqb workLen (workLength p)))
+
+unfoldable pub addExact : Parameters → ℕ → ℕ → ℕ → Bool
+addExact p aLen bLen sumLen =
+    eqb aLen (ciphertextLength p) && (eqb bLen (ciphertextLength p) && eqb sumLen (ciphertextLength p))
+
+unfoldable pub decryptExact : Parameters → ℕ → ℕ → ℕ → ℕ → Bool
+decryptExact p secretLen ciphertextLen messageLen workLen =
+    eqb secretLen (secretLength p)
+    && (eqb ciphertextLen (ciphertextLength p) && (eqb messageLen (messageLength p) && eqb workLen (workLength p)))
 
 -- ---- key generation (01: key making)
 
@@ -92,7 +115,7 @@ keyPairOf p ux uy others =
 unfoldable pub keygenAnswer : Parameters → List ℕ → ℕ → ℕ → ℕ → Answer KeyPair
 keygenAnswer p random secretLen publicLen workLen =
     answer
-    (lengthTests p (eqb secretLen (secretLength p) && (eqb publicLen (publicLength p) && eqb workLen (workLength p))))
+    (lengthTests p (keysExact p secretLen publicLen workLen))
     (refuse 9 (ltb (length random) (secretLength p) || not (keyDraws p random .enough)) ∷ [])
     (keyPairOf p (secretDrawn p random) (secretDrawn p (drop (smallLength p) random)) (keyDraws p random))
 
@@ -104,10 +127,9 @@ isZeroAt p key ux uy = every (p .n) (λ k. eqb (modulo (p .q) (value (p .n) (p .
 unfoldable pub isZeroAnswer : Parameters → List ℕ → List ℕ → ℕ → Answer Bool
 isZeroAnswer p secret public workLen =
     answer
-    (lengthTests p
-    (eqb (length secret) (secretLength p) && (eqb (length public) (publicLength p) && eqb workLen (workLength p))))
-    (refuse 7 (not (secretPadded p secret)) ∷ refuse 8 (not (elementsFit p (monomialCount (p .dx)) public)) ∷ [])
-    (isZeroAt p (polynomialFrom p (p .dx) public) (secretX p secret) (secretY p secret))
+    (lengthTests p (keysExact p (length secret) (length public) workLen))
+    (refuse 7 (not (secretBitsClear p secret)) ∷ refuse 8 (not (elementsFit p (monomialCount (p .dx)) public)) ∷ [])
+    (isZeroAt p (polynomialFrom p public) (secretX p secret) (secretY p secret))
 
 -- ---- encryption (01: sealing)
 
@@ -138,10 +160,7 @@ encryptUsed p random = maskLength p random + monomialCount (degree p) * smallLen
 unfoldable pub encryptAnswer : Parameters → List ℕ → List ℕ → List ℕ → ℕ → ℕ → Answer Encrypted
 encryptAnswer p public message random ciphertextLen workLen =
     answer
-    (lengthTests p
-    (eqb (length public) (publicLength p)
-    && (eqb (length message) (messageLength p)
-    && (eqb ciphertextLen (ciphertextLength p) && eqb workLen (workLength p)))))
+    (lengthTests p (encryptExact p (length public) (length message) ciphertextLen workLen))
     (refuse 7 (not (paddingClear (p .mlen) message))
     ∷ refuse 8 (not (elementsFit p (monomialCount (p .dx)) public))
     ∷ refuse 9 (not (maskDraws p random .enough) || ltb (length random) (encryptUsed p random))
@@ -149,7 +168,7 @@ encryptAnswer p public message random ciphertextLen workLen =
     (record {
       ciphertext =
           octetsFrom p (degree p)
-          (encryptedWith p (polynomialFrom p (p .dx) public) (smallOf p message) (polynomialOf (p .n) (maskDraws p random .values))
+          (encryptedWith p (polynomialFrom p public) (smallOf p message) (polynomialOf (p .n) (maskDraws p random .values))
           (noiseOf p (drop (maskLength p random) random)));
       used = encryptUsed p random;
     })
@@ -162,10 +181,9 @@ sumModulo p a b i = modulo (p .q) (sumOf a b i)
 unfoldable pub addAnswer : Parameters → List ℕ → List ℕ → ℕ → Answer (List ℕ)
 addAnswer p a b sumLen =
     answer
-    (lengthTests p
-    (eqb (length a) (ciphertextLength p) && (eqb (length b) (ciphertextLength p) && eqb sumLen (ciphertextLength p))))
+    (lengthTests p (addExact p (length a) (length b) sumLen))
     (refuse 8 (not (elementsFit p (monomialCount (degree p)) a && elementsFit p (monomialCount (degree p)) b)) ∷ [])
-    (octetsFrom p (degree p) (sumModulo p (polynomialFrom p (degree p) a) (polynomialFrom p (degree p) b)))
+    (octetsFrom p (degree p) (sumModulo p (polynomialFrom p a) (polynomialFrom p b)))
 
 -- ---- decryption (01: opening)
 
@@ -186,16 +204,13 @@ messageOf p m = packed (smallBits (p .l)) (messageLength p) (tabulate (p .n) m)
 
 unfoldable pub decryptedFrom : Parameters → List ℕ → List ℕ → Element
 decryptedFrom p secret ciphertext =
-    decryptedElement p (polynomialFrom p (degree p) ciphertext) (secretX p secret) (secretY p secret)
+    decryptedElement p (polynomialFrom p ciphertext) (secretX p secret) (secretY p secret)
 
 unfoldable pub decryptAnswer : Parameters → List ℕ → List ℕ → ℕ → ℕ → Answer (List ℕ)
 decryptAnswer p secret ciphertext messageLen workLen =
     answer
-    (lengthTests p
-    (eqb (length secret) (secretLength p)
-    && (eqb (length ciphertext) (ciphertextLength p)
-    && (eqb messageLen (messageLength p) && eqb workLen (workLength p)))))
-    (refuse 7 (not (secretPadded p secret))
+    (lengthTests p (decryptExact p (length secret) (length ciphertext) messageLen workLen))
+    (refuse 7 (not (secretBitsClear p secret))
     ∷ refuse 8 (not (elementsFit p (monomialCount (degree p)) ciphertext))
     ∷ refuse 10 (not (tailClear p (decryptedFrom p secret ciphertext)))
     ∷ [])

@@ -1,19 +1,20 @@
 -- 01, "What the library does": the conversions between octets and coefficient words, with "Refusal table".
 --
 --   fromOctetsAnswer so many ring elements from octets; toOctetsAnswer: back
---   smallFromAnswer  a small element from octets; smallToAnswer: back
---   conversionExit   the number and the output at exit, from an answer and what the output held before
---   fromOctetsExit, toOctetsExit  the same from what the call was lent: so many ring elements; this is what contracts equate
---   elementFromExit, elementToExit        a ring element;  publicFromExit, publicToExit: a public key
---   ciphertextFromExit, ciphertextToExit  a ciphertext (01: form);  smallFromExit, smallToExit: a small element
+--   chunk            the i-th of parts of one length that stand end to end
+--   packedFromAnswer so many packed small elements from octets, each with its own unused bits: 1 for a small element, 2 for a secret key;
+--                    packedToAnswer: back
+--   conversionLeaves the number and the output at exit, from an answer and what the output held before
+--   ..Exit           the same from what the call was lent: fromOctetsExit, toOctetsExit, packedFromExit, packedToExit
 -- Assumes nothing.
 use Prim.Native.Nat.{ℕ, _*_}
-use mathlib.Core.Bool.{_&&_, not}
+use mathlib.Core.Bool.{Bool, _&&_, not}
 use mathlib.Core.List.{List, [], _∷_}
 use lib.Dec.{eqb}
-use lib.ListN.{length}
+use lib.ListN.{length, take, drop}
+use Rattle.definitions.specs.Sequences.{every, tabulate, joined}
 use Rattle.definitions.specs.Refusals.{refuse, Answer, answer, number, output}
-use Rattle.definitions.specs.Parameters.{Parameters, degree, smallBits, qlen, monomialCount, smallLength, elementsLength}
+use Rattle.definitions.specs.Parameters.{Parameters, smallBits, qlen, smallLength, elementsLength}
 use Rattle.definitions.specs.Octets.{encoded, coefficientsFit, unpacked, packed, paddingClear}
 use Rattle.definitions.specs.Calls.{lengthTests, elementsFit, decodedElements}
 
@@ -31,53 +32,42 @@ toOctetsAnswer p elements words octetsLen =
     (refuse 8 (not (coefficientsFit (p .q) words)) ∷ [])
     (encoded (qlen (p .q)) words)
 
-unfoldable pub smallFromAnswer : Parameters → List ℕ → ℕ → Answer (List ℕ)
-smallFromAnswer p octets wordsLen =
-    answer
-    (lengthTests p (eqb (length octets) (smallLength p) && eqb wordsLen (p .n)))
-    (refuse 7 (not (paddingClear (p .n * smallBits (p .l)) octets)) ∷ [])
-    (unpacked (smallBits (p .l)) (p .n) octets)
+abbrev pub chunk : ℕ → List ℕ → ℕ → List ℕ
+chunk len list i = take len (drop (i * len) list)
 
-unfoldable pub smallToAnswer : Parameters → List ℕ → ℕ → Answer (List ℕ)
-smallToAnswer p words octetsLen =
+-- whether the unused bits of each packed element are zero
+abbrev pub eachBitsClear : Parameters → ℕ → List ℕ → Bool
+eachBitsClear p elements octets = every elements (λ i. paddingClear (p .n * smallBits (p .l)) (chunk (smallLength p) octets i))
+
+unfoldable pub packedFromAnswer : Parameters → ℕ → List ℕ → ℕ → Answer (List ℕ)
+packedFromAnswer p elements octets wordsLen =
     answer
-    (lengthTests p (eqb (length words) (p .n) && eqb octetsLen (smallLength p)))
+    (lengthTests p (eqb (length octets) (elements * smallLength p) && eqb wordsLen (elements * p .n)))
+    (refuse 7 (not (eachBitsClear p elements octets)) ∷ [])
+    (joined (tabulate elements (λ i. unpacked (smallBits (p .l)) (p .n) (chunk (smallLength p) octets i))))
+
+unfoldable pub packedToAnswer : Parameters → ℕ → List ℕ → ℕ → Answer (List ℕ)
+packedToAnswer p elements words octetsLen =
+    answer
+    (lengthTests p (eqb (length words) (elements * p .n) && eqb octetsLen (elements * smallLength p)))
     (refuse 8 (not (coefficientsFit (p .l) words)) ∷ [])
-    (packed (smallBits (p .l)) (smallLength p) words)
+    (joined (tabulate elements (λ i. packed (smallBits (p .l)) (smallLength p) (chunk (p .n) words i))))
 
 pub record ConversionExit : Type 0 where
   pub refusal : ℕ
   pub converted : List ℕ
 
-unfoldable pub conversionExit : Answer (List ℕ) → List ℕ → ConversionExit
-conversionExit a old = record { refusal = number a; converted = output (λ out. out) a old }
+abbrev pub conversionLeaves : Answer (List ℕ) → List ℕ → ConversionExit
+conversionLeaves a old = record { refusal = number a; converted = output (λ out. out) a old }
 
-abbrev pub fromOctetsExit : Parameters → ℕ → List ℕ → List ℕ → ConversionExit
-fromOctetsExit p elements octets words = conversionExit (fromOctetsAnswer p elements octets (length words)) words
+unfoldable pub fromOctetsExit : Parameters → ℕ → List ℕ → List ℕ → ConversionExit
+fromOctetsExit p elements octets words = conversionLeaves (fromOctetsAnswer p elements octets (length words)) words
 
-abbrev pub toOctetsExit : Parameters → ℕ → List ℕ → List ℕ → ConversionExit
-toOctetsExit p elements words octets = conversionExit (toOctetsAnswer p elements words (length octets)) octets
+unfoldable pub toOctetsExit : Parameters → ℕ → List ℕ → List ℕ → ConversionExit
+toOctetsExit p elements words octets = conversionLeaves (toOctetsAnswer p elements words (length octets)) octets
 
-abbrev pub elementFromExit : Parameters → List ℕ → List ℕ → ConversionExit
-elementFromExit p = fromOctetsExit p 1
+unfoldable pub packedFromExit : Parameters → ℕ → List ℕ → List ℕ → ConversionExit
+packedFromExit p elements octets words = conversionLeaves (packedFromAnswer p elements octets (length words)) words
 
-abbrev pub elementToExit : Parameters → List ℕ → List ℕ → ConversionExit
-elementToExit p = toOctetsExit p 1
-
-abbrev pub publicFromExit : Parameters → List ℕ → List ℕ → ConversionExit
-publicFromExit p = fromOctetsExit p (monomialCount (p .dx))
-
-abbrev pub publicToExit : Parameters → List ℕ → List ℕ → ConversionExit
-publicToExit p = toOctetsExit p (monomialCount (p .dx))
-
-abbrev pub ciphertextFromExit : Parameters → List ℕ → List ℕ → ConversionExit
-ciphertextFromExit p = fromOctetsExit p (monomialCount (degree p))
-
-abbrev pub ciphertextToExit : Parameters → List ℕ → List ℕ → ConversionExit
-ciphertextToExit p = toOctetsExit p (monomialCount (degree p))
-
-abbrev pub smallFromExit : Parameters → List ℕ → List ℕ → ConversionExit
-smallFromExit p octets words = conversionExit (smallFromAnswer p octets (length words)) words
-
-abbrev pub smallToExit : Parameters → List ℕ → List ℕ → ConversionExit
-smallToExit p words octets = conversionExit (smallToAnswer p words (length octets)) octets
+unfoldable pub packedToExit : Parameters → ℕ → List ℕ → List ℕ → ConversionExit
+packedToExit p elements words octets = conversionLeaves (packedToAnswer p elements words (length octets)) octets

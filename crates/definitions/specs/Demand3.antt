@@ -68,7 +68,7 @@ pub record SmallZero (p : Parameters) (public ux uy : List ℕ) : Type 0 where
   pub read-x : secretX p (secretOf p ux uy) ≡ elementOf ux
   pub read-y : secretY p (secretOf p ux uy) ≡ elementOf uy
   pub tested :
-      ((k : ℕ) → k < p .n → value (p .n) (p .dx) (polynomialFrom p (p .dx) public) (elementOf ux) (elementOf uy) k % p .q ≡ 0)
+      ((k : ℕ) → k < p .n → value (p .n) (p .dx) (polynomialFrom p public) (elementOf ux) (elementOf uy) k % p .q ≡ 0)
       ↔ ZeroOf p public (secretOf p ux uy)
 
 abbrev pub SmallZeros : Type 0
@@ -99,8 +99,8 @@ LedgerHolds =
 abbrev pub DiffersBy : Parameters → List ℕ → Polynomial → List ℕ → List ℕ → Type 0
 DiffersBy p public r c d =
     (i : ℕ) → i < monomialCount (degree p) → (k : ℕ) → k < p .n →
-    polynomialFrom p (degree p) c i k % p .q
-    ≡ (polynomialFrom p (degree p) d i k + productOf (p .n) (p .dx) (p .dr) (polynomialFrom p (p .dx) public) r i k) % p .q
+    polynomialFrom p c i k % p .q
+    ≡ (polynomialFrom p d i k + productOf (p .n) (p .dx) (p .dr) (polynomialFrom p public) r i k) % p .q
 
 abbrev pub Alike : Type 0
 Alike =

@@ -8,8 +8,10 @@ pub mod Octets
 pub mod Draws
 pub mod Calls
 pub mod Conversions
+pub mod Contracts
 pub mod Ledger
 pub mod Roomsheet
+pub mod Order
 pub mod Demand3
 pub mod Corollaries
 pub mod WorkedCases

@@ -109,8 +109,11 @@ pub record Limits : Type 0 where
   pub bound : ℕ
   pub headroom : ℕ
 
+abbrev pub limitsOf : Parameters → Limits
+limitsOf p = record { bound = bound p; headroom = headroom p }
+
 unfoldable pub limitsAnswer : Parameters → Answer Limits
-limitsAnswer p = answer (setTests p) [] (record { bound = bound p; headroom = headroom p })
+limitsAnswer p = answer (setTests p) [] (limitsOf p)
 
 pub record Lengths : Type 0 where
   pub secret : ℕ
@@ -119,16 +122,18 @@ pub record Lengths : Type 0 where
   pub ciphertext : ℕ
   pub work : ℕ
 
-unfoldable pub lengthsAnswer : Parameters → Answer Lengths
-lengthsAnswer p =
-    answer (setTests p) []
-    (record {
+abbrev pub lengthsOf : Parameters → Lengths
+lengthsOf p =
+    record {
       secret = secretLength p;
       public = publicLength p;
       message = messageLength p;
       ciphertext = ciphertextLength p;
       work = workLength p;
-    })
+    }
+
+unfoldable pub lengthsAnswer : Parameters → Answer Lengths
+lengthsAnswer p = answer (setTests p) [] (lengthsOf p)
 
 -- ---- what the caller has at exit: the number and every output
 

@@ -9,17 +9,17 @@
 --   numbersOf        the numbers of a line
 --   setOf            the set that six numbers name, in the order ℓ q n dX dr mlen
 --   limitsText       the text of a set's answer: 0, B and s, or the refusal alone
---   lineAnswer       the text printed for a line: that of its set; 11 where it is malformed
+--   lineLimits       the answer to a line: 11 where it is malformed, otherwise that of its set;  lineAnswer: the text printed for it
 --   roomsheet        the text printed for a text
 -- Assumes nothing.
 use Prim.Native.Nat.{ℕ, suc, _+_, _-_, _*_, _/_, _%_, _^_}
-use mathlib.Core.Bool.{Bool, cond, _&&_, _||_}
+use mathlib.Core.Bool.{Bool, cond, _&&_, _||_, not}
 use mathlib.Core.List.{List, [], _∷_, _++_, map}
 use lib.Dec.{eqb, leb}
 use lib.ListN.{length, getD}
 use Rattle.definitions.specs.Sequences.{every, howMany, tabulate, joined}
-use Rattle.definitions.specs.Refusals.{Answer, untouched, refused, accepted}
-use Rattle.definitions.specs.Parameters.{Parameters, Limits, limitsAnswer}
+use Rattle.definitions.specs.Refusals.{Answer, untouched, refused, accepted, refuse, answer}
+use Rattle.definitions.specs.Parameters.{Parameters, Limits, setTests, limitsOf}
 
 abbrev pub Text : Type 0
 Text = List ℕ
@@ -86,8 +86,15 @@ limitsText (refused k) = decimalText k
 limitsText (accepted limits) =
     decimalText 0 ++ (32 ∷ (decimalText (limits .bound) ++ (32 ∷ decimalText (limits .headroom))))
 
+unfoldable pub lineLimits : Text → Answer Limits
+lineLimits line =
+    answer
+    (refuse 11 (not (wellFormed 6 line)) ∷ setTests (setOf (numbersOf line)))
+    []
+    (limitsOf (setOf (numbersOf line)))
+
 unfoldable pub lineAnswer : Text → Text
-lineAnswer line = cond (wellFormed 6 line) (limitsText (limitsAnswer (setOf (numbersOf line)))) (decimalText 11)
+lineAnswer line = limitsText (lineLimits line)
 
 unfoldable pub roomsheet : Text → Text
 roomsheet text = joined (map (λ line. lineAnswer line ++ (10 ∷ [])) (linesOf text))

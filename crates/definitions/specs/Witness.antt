@@ -72,11 +72,11 @@ weakSecret = 0x0F ∷ 0x0F ∷ []
 abbrev pub weakCiphertext : List ℕ
 weakCiphertext =
     octetsFrom weakSet (degree weakSet)
-    (encryptedWith weakSet (polynomialFrom weakSet 1 weakKey) (smallOf weakSet (0x0F ∷ [])) (polynomialOf 2 (replicate 6 0)) (noiseOf weakSet (replicate 6 0x0F)))
+    (encryptedWith weakSet (polynomialFrom weakSet weakKey) (smallOf weakSet (0x0F ∷ [])) (polynomialOf 2 (replicate 6 0)) (noiseOf weakSet (replicate 6 0x0F)))
 
 pub record Weak : Type 0 where
   pub above-S : termSum weakSet < weakSet .q
   pub not-above-B : weakSet .q ≤ bound weakSet
-  pub zero : isZeroAt weakSet (polynomialFrom weakSet 1 weakKey) (secretX weakSet weakSecret) (secretY weakSet weakSecret) ≡ true
+  pub zero : isZeroAt weakSet (polynomialFrom weakSet weakKey) (secretX weakSet weakSecret) (secretY weakSet weakSecret) ≡ true
   pub message : tabulate 2 (smallOf weakSet (0x0F ∷ [])) ≡ 3 ∷ 3 ∷ []
   pub decrypted : tabulate 2 (decryptedFrom weakSet weakSecret weakCiphertext) ≡ 2 ∷ 2 ∷ []

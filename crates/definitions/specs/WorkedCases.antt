@@ -79,7 +79,7 @@ decryptA p secret ciphertext = toldMessage (decryptAnswer p secret ciphertext 1 
 
 -- w, at both places
 valueA : List ℕ → List ℕ → List ℕ
-valueA secret ciphertext = tabulate 2 (decryptedValue setA (polynomialFrom setA (degree setA) ciphertext) (secretX setA secret) (secretY setA secret))
+valueA secret ciphertext = tabulate 2 (decryptedValue setA (polynomialFrom setA ciphertext) (secretX setA secret) (secretY setA secret))
 
 -- case 8: 4 × 3 at every coefficient, and 3 more at the constant's
 zeroKey : List ℕ

@@ -1,8 +1,10 @@
--- That the list is legal and its ledger is what it should be, and that the weak set decrypts wrong: by computing both from the definitions.
+-- What follows by computing from the definitions alone: every row of the table of P cases (01, "Worked list"), that the witness's list is legal
+-- and its ledger what it should be, and that the weak set decrypts wrong.
 -- Assumes nothing.
 use Prim.Native.Nat.{ℕ, _<_}
 use mathlib.Core.Path.{_≡_, refl}
 use mathlib.Core.Bool.{true}
+use mathlib.Core.List.{map}
 use lib.Count.{leadingZeros}
 use Rattle.definitions.specs.Sequences.{sum, every, tabulate, joined}
 use Rattle.definitions.specs.Refusals.{firstRefusal, answer}
@@ -11,11 +13,12 @@ use Rattle.definitions.specs.Ring.{modulo, add, scale, conv, one, power}
 use Rattle.definitions.specs.Monomials.{ofDegree, monomials, monomialAt, polynomialOf, coefficientsOf, constantTerm, sumOf, sameMonomial, productOf, evaluated, valueOver, value}
 use Rattle.definitions.specs.Octets.{numberOf, octetsOf, coefficientAt, decoded, encoded, coefficientsFit, bitAt, regrouped, unpacked, packed, paddingClear}
 use Rattle.definitions.specs.Draws.{candidates, draws, secretDrawn, noiseDrawn}
-use Rattle.definitions.specs.Calls.{smallOf, secretX, secretY, decodedElements, polynomialFrom, octetsFrom, secretPadded, elementsFit, lengthTests, keyDraws, keyConstant, keyPairOf, keygenAnswer, maskDraws, noiseOf, encryptedWith, maskLength, encryptUsed, encryptAnswer, decryptedValue, decryptedElement, tailClear, messageOf, decryptedFrom, decryptAnswer, isZeroAt, isZeroAnswer, sumModulo, addAnswer}
+use Rattle.definitions.specs.Calls.{smallOf, secretX, secretY, decodedElements, octetsFrom, secretBitsClear, elementsFit, lengthTests, keysExact, encryptExact, addExact, decryptExact, keyDraws, keyConstant, keyPairOf, keygenAnswer, maskDraws, noiseOf, encryptedWith, maskLength, encryptUsed, encryptAnswer, decryptedValue, decryptedElement, tailClear, messageOf, decryptedFrom, decryptAnswer, isZeroAt, isZeroAnswer, sumModulo, addAnswer}
 use borrow.Author.Tests.{eqb-true}
 use lib.Dec.{eqb, lit<, lit≤}
 use Rattle.definitions.specs.Ledger.{operandOf, ciphertextAnswer, callAnswer, givenAfter, givenBy, eventOf, events, entryAfter, ledgerFrom, ledger, FromList, FromListUnder, LegalCall, Legal}
 use Rattle.definitions.proofs.Sums.{every-at}
+use Rattle.definitions.specs.WorkedCases.{Row, cases}
 use Rattle.definitions.specs.Witness.{Witnessed, Weak}
 
 -- equal at every place, by computing each
@@ -24,17 +27,18 @@ everywhere : (n m : ℕ) (f g : ℕ → ℕ → ℕ) → every n (λ i. every m 
 everywhere n m f g e i l k s =
     eqb-true (f i k) (g i k) (every-at m (λ k. eqb (f i k) (g i k)) (every-at n (λ i. every m (λ k. eqb (f i k) (g i k))) e l) s)
 
-witnesses : Witnessed × Weak
+computed : (map (λ (r : Row). r .given) cases ≡ map (λ (r : Row). r .expected) cases) × Witnessed × Weak
 unfolding
-    leadingZeros sum every tabulate joined firstRefusal answer smallBits termSum bound rangeFits ringFits degreeFits modulusFits messageFits setTests
+    cases leadingZeros sum every tabulate joined firstRefusal answer smallBits termSum bound rangeFits ringFits degreeFits modulusFits messageFits setTests
     bitLength qlen monomialCount smallLength secretLength elementsLength publicLength ciphertextLength messageLength workLength modulo add scale conv
     one power ofDegree monomials monomialAt polynomialOf coefficientsOf constantTerm sumOf sameMonomial productOf evaluated valueOver value numberOf
     octetsOf coefficientAt decoded encoded coefficientsFit bitAt regrouped unpacked packed paddingClear candidates draws secretDrawn noiseDrawn
-    smallOf secretX secretY decodedElements polynomialFrom octetsFrom secretPadded elementsFit lengthTests keyDraws keyConstant keyPairOf keygenAnswer
+    smallOf secretX secretY decodedElements octetsFrom secretBitsClear elementsFit lengthTests keysExact encryptExact addExact decryptExact keyDraws keyConstant keyPairOf keygenAnswer
     maskDraws noiseOf encryptedWith maskLength encryptUsed encryptAnswer decryptedValue decryptedElement tailClear messageOf decryptedFrom
     decryptAnswer isZeroAt isZeroAnswer sumModulo addAnswer operandOf ciphertextAnswer callAnswer givenAfter givenBy eventOf events entryAfter
     ledgerFrom ledger FromList FromListUnder LegalCall Legal
-witnesses = (
+computed = (
+  refl,
   record {
     set = refl;
     made = refl;
@@ -58,8 +62,11 @@ witnesses = (
   },
 )
 
+pub worked-cases : map (λ (r : Row). r .given) cases ≡ map (λ (r : Row). r .expected) cases
+worked-cases = computed .0
+
 pub witnessed : Witnessed
-witnessed = witnesses .0
+witnessed = computed .1
 
 pub weak : Weak
-weak = witnesses .1
+weak = computed .2

@@ -1,0 +1,93 @@
+-- What each call promises, as one equation over its arguments as a contract sees them: what the caller has at exit, the number and every output
+-- and the work words, is what 01 defines from what was lent at entry.
+--
+--   Lent             what is lent, at entry and at exit;  Buffer: octets or words;  Cell: a number behind a pointer
+--   before, after    what a buffer or a cell holds at entry, and at exit
+--   Bounds, Measures the set's bound and headroom; its lengths
+--   Makes            key generation (01: key making);  Tests: the zero test;  Encrypts: encryption (sealing);  Adds: addition;
+--                    Decrypts: decryption (opening)
+--   Decodes, Encodes so many ring elements from octets, and to octets;  Unpacks, Packs: so many packed small elements
+-- The number that the call answers comes last.
+-- Assumes nothing.
+use Prim.Native.Nat.{ℕ}
+use mathlib.Core.Path.{_≡_}
+use mathlib.Core.List.{List}
+use denote.Ref.{RefT, now}
+use denote.Triple.Both.{Both}
+use Rattle.definitions.specs.Parameters.{Parameters, LimitsExit, limitsExit, LengthsExit, lengthsExit}
+use Rattle.definitions.specs.Calls.{KeygenExit, keygenExit, IsZeroExit, isZeroExit, EncryptExit, encryptExit, AddExit, addExit, DecryptExit, decryptExit}
+use Rattle.definitions.specs.Conversions.{ConversionExit, fromOctetsExit, toOctetsExit, packedFromExit, packedToExit}
+
+abbrev pub Lent : Type 0 → Type 0
+Lent A = Both (RefT A) (RefT A)
+
+abbrev pub Buffer : Type 0
+Buffer = Lent (List ℕ)
+
+abbrev pub Cell : Type 0
+Cell = Lent ℕ
+
+abbrev pub before : {A : Type 0} → Lent A → A
+before x = now (x .entry)
+
+abbrev pub after : {A : Type 0} → Lent A → A
+after x = now (x .exit)
+
+abbrev pub Bounds : Parameters → Cell → Cell → ℕ → Type 0
+Bounds p bound headroom r =
+    _≡_ {A = LimitsExit}
+    (record { refusal = r; limits = record { bound = after bound; headroom = after headroom } })
+    (limitsExit p (record { bound = before bound; headroom = before headroom }))
+
+abbrev pub Measures : Parameters → Cell → Cell → Cell → Cell → Cell → ℕ → Type 0
+Measures p secret public message ciphertext work r =
+    _≡_ {A = LengthsExit}
+    (record {
+      refusal = r;
+      lengths = record { secret = after secret; public = after public; message = after message; ciphertext = after ciphertext; work = after work };
+    })
+    (lengthsExit p
+    (record { secret = before secret; public = before public; message = before message; ciphertext = before ciphertext; work = before work }))
+
+abbrev pub Makes : Parameters → Buffer → Buffer → Buffer → Buffer → Cell → ℕ → Type 0
+Makes p random secret public work used r =
+    _≡_ {A = KeygenExit}
+    (record { refusal = r; secret = after secret; public = after public; used = after used; work = after work })
+    (keygenExit p (before random) (before secret) (before public) (before used) (before work))
+
+abbrev pub Tests : Parameters → Buffer → Buffer → Buffer → Cell → ℕ → Type 0
+Tests p secret public work zero r =
+    _≡_ {A = IsZeroExit}
+    (record { refusal = r; zero = after zero; work = after work })
+    (isZeroExit p (before secret) (before public) (before zero) (before work))
+
+abbrev pub Encrypts : Parameters → Buffer → Buffer → Buffer → Buffer → Buffer → Cell → ℕ → Type 0
+Encrypts p public message random ciphertext work used r =
+    _≡_ {A = EncryptExit}
+    (record { refusal = r; ciphertext = after ciphertext; used = after used; work = after work })
+    (encryptExit p (before public) (before message) (before random) (before ciphertext) (before used) (before work))
+
+abbrev pub Adds : Parameters → Buffer → Buffer → Buffer → ℕ → Type 0
+Adds p a b sum r = _≡_ {A = AddExit} (record { refusal = r; sum = after sum }) (addExit p (before a) (before b) (before sum))
+
+abbrev pub Decrypts : Parameters → Buffer → Buffer → Buffer → Buffer → ℕ → Type 0
+Decrypts p secret ciphertext message work r =
+    _≡_ {A = DecryptExit}
+    (record { refusal = r; message = after message; work = after work })
+    (decryptExit p (before secret) (before ciphertext) (before message) (before work))
+
+-- a conversion by what it leaves: from the buffer given to the one lent for its output
+abbrev pub Converts : (Parameters → ℕ → List ℕ → List ℕ → ConversionExit) → Parameters → ℕ → Buffer → Buffer → ℕ → Type 0
+Converts exit p elements given out r = record { refusal = r; converted = after out } ≡ exit p elements (before given) (before out)
+
+abbrev pub Decodes : Parameters → ℕ → Buffer → Buffer → ℕ → Type 0
+Decodes = Converts fromOctetsExit
+
+abbrev pub Encodes : Parameters → ℕ → Buffer → Buffer → ℕ → Type 0
+Encodes = Converts toOctetsExit
+
+abbrev pub Unpacks : Parameters → ℕ → Buffer → Buffer → ℕ → Type 0
+Unpacks = Converts packedFromExit
+
+abbrev pub Packs : Parameters → ℕ → Buffer → Buffer → ℕ → Type 0
+Packs = Converts packedToExit
