@@ -33,7 +33,7 @@ fn add_noise(p: Parameters, random: &[u8], at: usize, work: &mut [u32])
     let from = 6 * n;
     let end = from + n;
     draws::draw_noise(random, at, p, &mut work[from..end]);
-    ring_multiples::add_scaled(work, 7 * n, from, p.l, n, p.q);
+    ring::add_scaled(work, 7 * n, from, p.l, n, p.q);
 }
 
 // Part 7 takes the message, where m is the constant's place.
@@ -48,7 +48,7 @@ fn add_message(p: Parameters, message: &[u8], m: usize, work: &mut [u32])
     let from = 6 * n;
     let end = from + n;
     unpacking::unpack(message, parameters::bits(p.l), &mut work[from..end]);
-    ring_multiples::add_scaled(work, 7 * n, from, 1, n, p.q);
+    ring::add_scaled(work, 7 * n, from, 1, n, p.q);
 }
 
 // The m-th element of X × r, in part 7.

@@ -78,7 +78,7 @@ fn write_constant(public: &mut [u8], d: usize, n: usize, qlen: usize, q: u32, wo
 {
     values::evaluate(public, d, n, qlen, q, work);
     let at = 2 * n;
-    ring_multiples::negate(work, at, n, q);
+    ring::negate(work, at, n, q);
     let stop = at + n;
     let from = public.len() - n * qlen;
     encoding::encode(&work[at..stop], qlen, &mut public[from..]);

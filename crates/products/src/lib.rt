@@ -38,18 +38,6 @@ fn split(n: usize) -> Halving
     }
 }
 
-// The element at from to a place of other words.
-fn copy(words: &mut [u32], at: usize, work: &[u32], from: usize, n: usize)
-    requires { ⌜ (at + n ≤ length (now words)) × (from + n ≤ length (now work)) ⌝ }
-    ensures { λ _. ⌜ now (words .exit) ≡ written at (tabulate n (part (now (work .entry)) from)) (now (words .entry)) ⌝ }
-{
-    let mut k = 0;
-    while k < n {
-        words[at + k] = work[from + k];
-        k += 1;
-    }
-}
-
 // The element at a place, reduced.
 fn reduce(words: &mut [u32], at: usize, n: usize, q: u32)
     requires { ⌜ (at + n ≤ length (now words)) × (0 < q) ⌝ }
@@ -67,7 +55,7 @@ fn load(words: &mut [u32], at: usize, work: &[u32], from: usize, n: usize, q: u3
     requires { ⌜ (at + n ≤ length (now words)) × (from + n ≤ length (now work)) × (0 < q) × (16 ≤ q → InRing q n (part (now work) from)) ⌝ }
     ensures { λ _. ⌜ now (words .exit) ≡ written at (tabulate n (λ k. part (now (work .entry)) from k % q)) (now (words .entry)) ⌝ }
 {
-    copy(words, at, work, from, n);
+    ring::copy_from(words, at, work, from, n);
     if q >= 16 {
         return;
     }

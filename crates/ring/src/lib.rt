@@ -1,11 +1,11 @@
-// Sums in R_q over the work words (01, "Ring, monomials, octets"): elements stand in one slice, each from an offset on.
-// Nothing is refused: callers keep parts within the words and coefficients below q. Contracts cite specs/Work.antt.
+// Sums and multiples in R_q over the work words (01, "Ring, monomials, octets"): elements stand in one slice, each from an offset on, or in
+// another list. Nothing is refused: callers keep parts within the words and coefficients below q. Contracts cite specs/Work.antt.
 ghost use mathlib.Core.Path.{_≡_};
 ghost use Prim.Native.Nat.{_+_, _-_, _%_, _<_, _≤_};
 ghost use lib.ListN.{length, replicate};
 ghost use Rattle.definitions.specs.Sequences.{tabulate};
-ghost use Rattle.definitions.specs.Ring.{InRing};
-ghost use Rattle.ring.specs.Work.{part, written, Apart, elementAdded, elementTaken};
+ghost use Rattle.definitions.specs.Ring.{scale, InRing};
+ghost use Rattle.ring.specs.Work.{part, written, Apart, elementAdded, elementTaken, otherAdded, otherTaken, scaledAdded, negated};
 
 // The sum of two coefficients. Where taking q off the sum wraps, q was not to be taken off: the highest bit says so, which is quicker to
 // test, four coefficients at once, than the sum against q.
@@ -27,6 +27,19 @@ pub fn add(work: &mut [u32], c: usize, e: usize, n: usize, q: u32)
     let mut k = 0;
     while k < n {
         work[c + k] = sum(work[c + k], work[e + k], q);
+        k += 1;
+    }
+}
+
+// In place c := c + e in R_q, where e stands in another list.
+pub fn add_from(work: &mut [u32], c: usize, other: &[u32], e: usize, n: usize, q: u32)
+    requires { ⌜ (c + n ≤ length (now work)) × (e + n ≤ length (now other)) × (q < 2147483648) ⌝ }
+    requires { ⌜ InRing q n (part (now work) c) × InRing q n (part (now other) e) ⌝ }
+    ensures { λ _. ⌜ now (work .exit) ≡ otherAdded n q (part (now (other .entry)) e) c (now (work .entry)) ⌝ }
+{
+    let mut k = 0;
+    while k < n {
+        work[c + k] = sum(work[c + k], other[e + k], q);
         k += 1;
     }
 }
@@ -57,6 +70,52 @@ pub fn subtract(work: &mut [u32], c: usize, e: usize, n: usize, q: u32)
     }
 }
 
+// In place c := c - e in R_q, where e stands in another list.
+pub fn subtract_from(work: &mut [u32], c: usize, other: &[u32], e: usize, n: usize, q: u32)
+    requires { ⌜ (c + n ≤ length (now work)) × (e + n ≤ length (now other)) × (q < 2147483648) ⌝ }
+    requires { ⌜ InRing q n (part (now work) c) × InRing q n (part (now other) e) ⌝ }
+    ensures { λ _. ⌜ now (work .exit) ≡ otherTaken n q (part (now (other .entry)) e) c (now (work .entry)) ⌝ }
+{
+    let mut k = 0;
+    while k < n {
+        work[c + k] = difference(work[c + k], other[e + k], q);
+        k += 1;
+    }
+}
+
+// The negative of a coefficient.
+fn negative(a: u32, q: u32) -> u32
+    requires { ⌜ a < q ⌝ }
+    ensures { λ r. ⌜ r ≡ (q - a) % q ⌝ }
+{
+    if a == 0 { 0 } else { q - a }
+}
+
+// In place a := -a in R_q.
+pub fn negate(work: &mut [u32], a: usize, n: usize, q: u32)
+    requires { ⌜ (a + n ≤ length (now work)) × InRing q n (part (now work) a) ⌝ }
+    ensures { λ _. ⌜ now (work .exit) ≡ negated n q a (now (work .entry)) ⌝ }
+{
+    let mut k = 0;
+    while k < n {
+        work[a + k] = negative(work[a + k], q);
+        k += 1;
+    }
+}
+
+// In place c := c + l × e in R_q, where each l × e_k is below q.
+pub fn add_scaled(work: &mut [u32], c: usize, e: usize, l: u32, n: usize, q: u32)
+    requires { ⌜ (c + n ≤ length (now work)) × (e + n ≤ length (now work)) × Apart c e n × (q < 2147483648) ⌝ }
+    requires { ⌜ InRing q n (part (now work) c) × InRing q n (scale l (part (now work) e)) ⌝ }
+    ensures { λ _. ⌜ now (work .exit) ≡ scaledAdded n q l e c (now (work .entry)) ⌝ }
+{
+    let mut k = 0;
+    while k < n {
+        work[c + k] = sum(work[c + k], l * work[e + k], q);
+        k += 1;
+    }
+}
+
 // The element at from, copied to another part.
 pub fn copy(work: &mut [u32], to: usize, from: usize, n: usize)
     requires { ⌜ (to + n ≤ length (now work)) × (from + n ≤ length (now work)) × Apart to from n ⌝ }
@@ -65,6 +124,18 @@ pub fn copy(work: &mut [u32], to: usize, from: usize, n: usize)
     let mut k = 0;
     while k < n {
         work[to + k] = work[from + k];
+        k += 1;
+    }
+}
+
+// The element at a place of another list, copied to a part.
+pub fn copy_from(to: &mut [u32], at: usize, from: &[u32], start: usize, n: usize)
+    requires { ⌜ (at + n ≤ length (now to)) × (start + n ≤ length (now from)) ⌝ }
+    ensures { λ _. ⌜ now (to .exit) ≡ written at (tabulate n (part (now (from .entry)) start)) (now (to .entry)) ⌝ }
+{
+    let mut k = 0;
+    while k < n {
+        to[at + k] = from[start + k];
         k += 1;
     }
 }

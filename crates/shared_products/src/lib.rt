@@ -38,9 +38,9 @@ fn prepare_element(
     let total = 7 * n;
     mask_products::clear_sum(work, n, q);
     values::load(public, i, n, qlen, work, spare);
-    ring_lists::copy_from(keys, at, work, spare, n);
+    ring::copy_from(keys, at, work, spare, n);
     products::multiply_add(work, spare, at, total, n, q);
-    ring_lists::copy_from(diagonal, at, work, total, n);
+    ring::copy_from(diagonal, at, work, total, n);
 }
 
 // The key's elements and the diagonal, into their lists.
@@ -71,8 +71,8 @@ fn load_sum(i: usize, j: usize, n: usize, q: u32, work: &mut [u32], keys: &[u32]
     ensures { λ _. ⌜ now (work .exit) ≡ written (6 * n) (tabulate n (λ k. (keyIn n (now (keys .entry)) i k + keyIn n (now (keys .entry)) j k) % q)) (now (work .entry)) ⌝ }
 {
     let spare = 6 * n;
-    ring_lists::copy_from(work, spare, keys, i * n, n);
-    ring_lists::add_from(work, spare, keys, j * n, n, q);
+    ring::copy_from(work, spare, keys, i * n, n);
+    ring::add_from(work, spare, keys, j * n, n, q);
 }
 
 // (X_i + X_j)(r_i + r_j), added to the sum. The sum of the mask's elements stands in the place of the first meanwhile.
@@ -110,8 +110,8 @@ fn add_pair(
     }
     let total = 7 * n;
     multiply_sums(i, j, n, q, work, keys);
-    ring_lists::subtract_from(work, total, diagonal, i * n, n, q);
-    ring_lists::subtract_from(work, total, diagonal, j * n, n, q);
+    ring::subtract_from(work, total, diagonal, i * n, n, q);
+    ring::subtract_from(work, total, diagonal, j * n, n, q);
 }
 
 // X_i r_i, where the monomial's square is the m-th.
@@ -123,7 +123,7 @@ fn add_square(d: usize, i: usize, m: usize, n: usize, q: u32, work: &mut [u32], 
     if mask_products::same_monomial(d, i, d, i, m) == 0 {
         return;
     }
-    ring_lists::add_from(work, 7 * n, diagonal, i * n, n, q);
+    ring::add_from(work, 7 * n, diagonal, i * n, n, q);
 }
 
 // One monomial with itself and with each before it.

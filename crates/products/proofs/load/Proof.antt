@@ -10,13 +10,13 @@ returns : tie.Need-returns
 returns c =
     let start = c .before .before .before .before .before .before .before in
     let a = start .args in
-    copied-reduced (a .at) (a .n) (a .q) (part (a .work .now) (a .from)) (a .words .now) (start .pre .3 (c .if1 .taken)) (c .before .before .before .copy .ensures)
+    copied-reduced (a .at) (a .n) (a .q) (part (a .work .now) (a .from)) (a .words .now) (start .pre .3 (c .if1 .taken)) (c .before .before .before .copy-from .ensures)
 
 returns-2 : tie.Need-returns-2
 returns-2 c =
     let start = c .before .before .before .before .before .before .before .before .before .before .before in
     let a = start .args in
-    copied-then-reduced (a .at) (a .n) (a .q) (part (a .work .now) (a .from)) (a .words .now) (start .pre .0) (c .before .before .before .before .before .before .before .copy .ensures) (c .before .before .reduce .ensures)
+    copied-then-reduced (a .at) (a .n) (a .q) (part (a .work .now) (a .from)) (a .words .now) (start .pre .0) (c .before .before .before .before .before .before .before .copy-from .ensures) (c .before .before .reduce .ensures)
 
 pub load-spec : {M : Type 1} → statement M
 load-spec =

@@ -1,11 +1,11 @@
--- `ring_multiples::negative` meets its contract: q - a is below q, but for a = 0, where it is q.
+-- `ring::negative` meets its contract: q - a is below q, but for a = 0, where it is q.
 -- Assumes nothing.
 use native.Mathlib.Omega.{arith}
 use borrow.Author.Needs.{needs}
 use native.Mathlib.Nat.{mod-eq-of-lt, mod-self, sub-zero}
 use mathlib.Core.Path.{sym}
-use Rattle.ring_multiples.proofs.negative.Statement.{statement}
-use Rattle.ring_multiples.proofs.negative.Tie as tie
+use Rattle.ring.proofs.negative.Statement.{statement}
+use Rattle.ring.proofs.negative.Tie as tie
 
 returns : tie.Need-returns
 returns c = rw (c .if1 .taken, sub-zero) (sym (mod-self (c .before .args .q)))

@@ -1,12 +1,12 @@
--- `ring_multiples::negate` meets its contract: after k turns the first k coefficients are negated.
+-- `ring::negate` meets its contract: after k turns the first k coefficients are negated.
 -- Assumes nothing.
 use native.Mathlib.Omega.{arith}
 use Prim.Native.Nat.{ℕ, _+_, _-_, _%_, _≤_}
 use mathlib.Core.Path.{refl, ap, _∙_}
 use Rattle.ring.specs.Work.{part}
 use Rattle.ring.proofs.Work.{Writing, writing-none, writing-more, writing-ahead, writing-all}
-use Rattle.ring_multiples.proofs.negate.Statement.{statement}
-use Rattle.ring_multiples.proofs.negate.Tie as tie
+use Rattle.ring.proofs.negate.Statement.{statement}
+use Rattle.ring.proofs.negate.Tie as tie
 
 abbrev Inv-loop : tie.InvT-loop
 Inv-loop work₀ a n q k₀ work k = (k ≤ n) × Writing a k (λ j. (q - part work₀ a j) % q) work₀ work

@@ -1,15 +1,15 @@
--- `ring_lists::subtract_from` meets its contract: after k turns the first k coefficients are taken away.
+-- `ring::add_from` meets its contract: after k turns the first k coefficients are added.
 -- Assumes nothing.
 use native.Mathlib.Omega.{arith}
 use Prim.Native.Nat.{ℕ, _+_, _-_, _%_, _≤_}
 use mathlib.Core.Path.{_≡_, refl, ap, _∙_}
 use Rattle.ring.specs.Work.{part}
 use Rattle.ring.proofs.Work.{Writing, writing-none, writing-more, writing-ahead, writing-all}
-use Rattle.ring_lists.proofs.subtract_from.Statement.{statement}
-use Rattle.ring_lists.proofs.subtract_from.Tie as tie
+use Rattle.ring.proofs.add_from.Statement.{statement}
+use Rattle.ring.proofs.add_from.Tie as tie
 
 abbrev Inv-loop : tie.InvT-loop
-Inv-loop work₀ c other e n q k₀ work k = (k ≤ n) × Writing c k (λ j. (part work₀ c j + (q - part other e j)) % q) work₀ work
+Inv-loop work₀ c other e n q k₀ work k = (k ≤ n) × Writing c k (λ j. (part work₀ c j + part other e j) % q) work₀ work
 
 abbrev μ-loop : tie.MeasureT-loop
 μ-loop work₀ c other e n q k₀ work k = n - k
@@ -17,30 +17,30 @@ abbrev μ-loop : tie.MeasureT-loop
 loop-holds : tie.Need-loop-holds Inv-loop μ-loop
 loop-holds c = (omega arith, writing-none _ _ _)
 
-add-difference : tie.Need-add-difference Inv-loop μ-loop
-add-difference c = omega arith
+add-sum : tie.Need-add-sum Inv-loop μ-loop
+add-sum c = omega arith
 
-mul-difference : tie.Need-mul-difference Inv-loop μ-loop
-mul-difference c = omega arith
+mul-sum : tie.Need-mul-sum Inv-loop μ-loop
+mul-sum c = omega arith
 
-slice-read-difference : tie.Need-slice-read-difference Inv-loop μ-loop
-slice-read-difference c = omega arith
+slice-read-sum : tie.Need-slice-read-sum Inv-loop μ-loop
+slice-read-sum c = omega arith
 
-add-difference-2 : tie.Need-add-difference-2 Inv-loop μ-loop
-add-difference-2 c = omega arith
+add-sum-2 : tie.Need-add-sum-2 Inv-loop μ-loop
+add-sum-2 c = omega arith
 
-mul-difference-2 : tie.Need-mul-difference-2 Inv-loop μ-loop
-mul-difference-2 c = omega arith
+mul-sum-2 : tie.Need-mul-sum-2 Inv-loop μ-loop
+mul-sum-2 c = omega arith
 
-shared-slice-read-difference : tie.Need-shared-slice-read-difference Inv-loop μ-loop
-shared-slice-read-difference c = omega arith
+shared-slice-read-sum : tie.Need-shared-slice-read-sum Inv-loop μ-loop
+shared-slice-read-sum c = omega arith
 
 -- the word of this turn is as it was at entry
 own : (c : tie.In-loop Inv-loop μ-loop) → part (c .before .loop .work) (c .before .before .before .before .args .c) (c .before .loop .k) ≡ part (c .before .before .before .before .args .work .now) (c .before .before .before .before .args .c) (c .before .loop .k)
 own c = writing-ahead (c .before .before .before .before .args .c + c .before .loop .k) (c .before .loop .inv .1) (omega arith) (omega arith)
 
-difference-requires : tie.Need-difference-requires Inv-loop μ-loop
-difference-requires c κs =
+sum-requires : tie.Need-sum-requires Inv-loop μ-loop
+sum-requires c κs =
     let start = c .before .before .before .before .before .before in
     let k = c .before .before .before .loop .k in
     (omega (arith, own (c .before .before), start .pre .1 .0 k (omega arith)), start .pre .1 .1 k (omega arith), omega arith)
@@ -65,7 +65,7 @@ loop-again c =
     let a = c .before .before .before .before .before .before .before .args in
     let k = c .before .before .before .before .loop .k in (
       omega arith,
-      writing-more (c .before .before .before .before .loop .inv .1) refl (omega arith) (c .difference .ensures ∙ ap (λ (x : ℕ). (x + (a .q - part (a .other .now) (a .e) k)) % a .q) (own (c .before .before .before))),
+      writing-more (c .before .before .before .before .loop .inv .1) refl (omega arith) (c .sum .ensures ∙ ap (λ (x : ℕ). (x + part (a .other .now) (a .e) k) % a .q) (own (c .before .before .before))),
     )
 
 same-length : tie.Need-same-length Inv-loop μ-loop
@@ -74,20 +74,20 @@ same-length c = omega arith
 returns : tie.Need-returns Inv-loop μ-loop
 returns c = writing-all (c .before .loop .inv .1) (omega arith)
 
-pub subtract-from-spec : {M : Type 1} → statement M
-subtract-from-spec =
+pub add-from-spec : {M : Type 1} → statement M
+add-from-spec =
     tie.close
     (tie.spec
     Inv-loop
     μ-loop
     loop-holds
-    add-difference
-    mul-difference
-    slice-read-difference
-    add-difference-2
-    mul-difference-2
-    shared-slice-read-difference
-    difference-requires
+    add-sum
+    mul-sum
+    slice-read-sum
+    add-sum-2
+    mul-sum-2
+    shared-slice-read-sum
+    sum-requires
     add-work
     mul-work
     slice-write-work

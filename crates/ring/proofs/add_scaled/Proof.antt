@@ -1,13 +1,13 @@
--- `ring_multiples::add_scaled` meets its contract: after k turns the first k coefficients are added; the other part is not written.
+-- `ring::add_scaled` meets its contract: after k turns the first k coefficients are added; the other part is not written.
 -- Assumes nothing.
 use native.Mathlib.Omega.{arith}
 use Prim.Native.Nat.{ℕ, _+_, _-_, _*_, _%_, _≤_}
 use mathlib.Core.Path.{_≡_, refl, ap, ap₂, _∙_}
 use Rattle.ring.specs.Work.{part}
 use Rattle.ring.proofs.Work.{Writing, writing-none, writing-more, writing-ahead, writing-apart, writing-all}
 use Rattle.definitions.specs.Ring.{scale}
-use Rattle.ring_multiples.proofs.add_scaled.Statement.{statement}
-use Rattle.ring_multiples.proofs.add_scaled.Tie as tie
+use Rattle.ring.proofs.add_scaled.Statement.{statement}
+use Rattle.ring.proofs.add_scaled.Tie as tie
 
 abbrev Inv-loop : tie.InvT-loop
 Inv-loop work₀ c e l n q k₀ work k = (k ≤ n) × Writing c k (λ j. (part work₀ c j + l * part work₀ e j) % q) work₀ work

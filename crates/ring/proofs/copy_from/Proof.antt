@@ -1,12 +1,12 @@
--- `ring_lists::copy_from` meets its contract: after k turns the first k words of the part are written.
+-- `ring::copy_from` meets its contract: after k turns the first k words of the part are written.
 -- Assumes nothing.
 use Prim.Native.Nat.{_≤_, _-_}
 use native.Mathlib.Omega.{arith}
 use mathlib.Core.Path.{refl}
 use Rattle.ring.specs.Work.{part}
 use Rattle.ring.proofs.Work.{Writing, writing-none, writing-more, writing-all}
-use Rattle.ring_lists.proofs.copy_from.Statement.{statement}
-use Rattle.ring_lists.proofs.copy_from.Tie as tie
+use Rattle.ring.proofs.copy_from.Statement.{statement}
+use Rattle.ring.proofs.copy_from.Tie as tie
 
 abbrev Inv-loop : tie.InvT-loop
 Inv-loop to₀ at from start n k₀ to k = (k ≤ n) × Writing at k (part from start) to₀ to
