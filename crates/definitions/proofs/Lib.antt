@@ -9,6 +9,7 @@ pub mod Values
 pub mod Noise
 pub mod Tests
 pub mod Refusals
+pub mod Order
 pub mod Parameters
 pub mod Octets
 pub mod Packing
@@ -18,7 +19,6 @@ pub mod Elements
 pub mod Small
 pub mod Calls
 pub mod Exits
-pub mod Order
 pub mod Represents
 pub mod Decryption
 pub mod Zeros
