@@ -52,7 +52,7 @@ fn add_pair(
     }
     let spare = 6 * n;
     values::load(public, i, n, qlen, work, spare);
-    products::multiply_add(work, spare, j * n, 7 * n, n, q);
+    products::multiply_add(work, spare, j * n, 7 * n, n, q, q);
 }
 
 // One monomial of the key, with each of the mask.

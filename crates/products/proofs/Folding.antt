@@ -1,5 +1,5 @@
--- The product in R_q is the product of the polynomials with the places from n on added to those from 0 on; and coefficients may be
--- reduced before and after.
+-- The product in R_q is the product of the polynomials with the places from n on added to those from 0 on; it may be reduced before and
+-- after.
 -- Assumes nothing.
 use Prim.Native.Nat.{ℕ, _+_, _-_, _*_, _%_, _≤_, _<_}
 use native.Mathlib.Nat.{add-zero, zero-add, zero-mul, mul-add, mod-eq-of-lt, add-mod-right, mul-le-mul, le-of-lt}
@@ -11,10 +11,11 @@ use lib.ListN.{getD}
 use Rattle.definitions.specs.Sequences.{sum, sameNumber, tabulate}
 use Rattle.definitions.specs.Ring.{Element, InRing, conv}
 use Rattle.definitions.proofs.Sums.{sameNumber-self, sameNumber-other, sum-cong, sum-add, sum-zero, sum-append, tabulate-cong}
-use Rattle.definitions.proofs.Congruence.{Cong, cong-refl, cong-trans, cong-mod, cong-add}
-use Rattle.definitions.proofs.Ring.{conv-cong-modulo, conv-le}
+use Rattle.definitions.proofs.Congruence.{Cong, cong-refl, cong-mod, cong-add}
+use Rattle.definitions.proofs.Ring.{conv-le}
 use Rattle.ring.specs.Work.{part, written}
 use Rattle.ring.specs.Linear.{linear}
+use Rattle.ring.proofs.Linear.{linear-cong}
 use Rattle.products.proofs.Loading.{Loaded}
 
 sum-padded : (n m : ℕ) (f : ℕ → ℕ) → n ≤ m → ((i : ℕ) → n ≤ i → i < m → f i ≡ 0) → sum m f ≡ sum n f
@@ -66,22 +67,19 @@ conv-linear n a b {k} l = sum-cong n (λ i s. row i s) ∙ sum-add n (λ i. a i 
         ap (λ (x : ℕ). a i * x) (sum-cong n (λ j u. at i j s u) ∙ sum-add n (λ j. b j * sameNumber (i + j) k) (λ j. b j * sameNumber (i + j) (n + k)))
         ∙ mul-add (a i) (moved i k) (moved i (n + k))
 
--- f and g are the factors, reduced and filled up to m, and p their product, reduced: its fold is the product in R_q
-module _ (n m q : ℕ) (a b f g p : Element) (fits : n ≤ m) (left : Loaded n m q a f) (right : Loaded n m q b g) (same : (k : ℕ) → k < m + m → p k ≡ linear m f g k % q) where
-  product-cong : (k : ℕ) → k < m + m → Cong q (p k) (linear n f g k)
-  product-cong k l = rw (same k l, linear-padded n m f g fits (left .outside) (right .outside) k) (cong-mod q (linear n f g k))
-
-  factor-cong : {e h : Element} → Loaded n m q e h → (i : ℕ) → i < n → Cong q (h i) (e i)
-  factor-cong {e} l i s = rw (l .inside i s) (cong-mod q (e i))
+-- f and g are the factors, filled up to m, and p their product, reduced: its fold is the product in R_q
+module _ (n m q : ℕ) (a b f g p : Element) (fits : n ≤ m) (left : Loaded n m a f) (right : Loaded n m b g) (same : (k : ℕ) → k < m + m → p k ≡ linear m f g k % q) where
+  product-cong : (k : ℕ) → k < m + m → Cong q (p k) (linear n a b k)
+  product-cong k l =
+      rw (same k l, linear-padded n m f g fits (left .outside) (right .outside) k, linear-cong n (left .inside) (right .inside) k) (cong-mod q (linear n a b k))
 
   product-folded : (x : ℕ) {k : ℕ} → k < n → (p k + p (n + k) + x) % q ≡ (conv n a b k + x) % q
   product-folded x {k} l =
-      let parts : Cong q (p k + p (n + k)) (linear n f g k + linear n f g (n + k)) = cong-add (product-cong k (omega arith)) (product-cong (n + k) (omega arith)) in
-      let whole : Cong q (linear n f g k + linear n f g (n + k)) (conv n a b k) = rw (← conv-linear n f g l) (conv-cong-modulo n (factor-cong left) (factor-cong right) k) in
-      cong-add (cong-trans parts whole) (cong-refl {x = x}) .same
+      rw (conv-linear n a b l) (cong-add (cong-add (product-cong k (omega arith)) (product-cong (n + k) (omega arith))) (cong-refl {x = x}) .same)
 
-  pub product-added : (at : ℕ) (old new : List ℕ) → new ≡ written at (tabulate n (λ k. (p k + p (n + k) + part old at k) % q)) old → new ≡ written at (tabulate n (λ k. (conv n a b k + part old at k) % q)) old
-  product-added at old new e = e ∙ ap (λ (l : List ℕ). written at l old) (tabulate-cong n (λ k l. product-folded (part old at k) l))
+  pub product-added : (at : ℕ) (old : List ℕ) {new : List ℕ} → new ≡ written at (tabulate n (λ k. (p k + p (n + k) + part old at k) % q)) old
+      → new ≡ written at (tabulate n (λ k. (conv n a b k + part old at k) % q)) old
+  product-added at old e = e ∙ ap (λ (l : List ℕ). written at l old) (tabulate-cong n (λ k l. product-folded (part old at k) l))
 
 -- ---- sums that are not reduced
 module _ (n q : ℕ) (a b : Element) (low : List ℕ) (same : (k : ℕ) → getD low k 0 ≡ linear n a b k) where
@@ -94,5 +92,5 @@ module _ (n q : ℕ) (a b : Element) (low : List ℕ) (same : (k : ℕ) → getD
       let most : n * (q * top) ≤ 18446744069414584320 = mul-le-mul few h in
       omega (arith, sums-folded l, conv-le n q top a b (λ i s. le-of-lt (x i s)) (λ i s. le-of-lt (y i s)) k)
 
-  pub sums-added : (at : ℕ) (old new : List ℕ) → new ≡ written at (tabulate n (λ k. (getD low k 0 + getD low (n + k) 0 + part old at k) % q)) old → new ≡ written at (tabulate n (λ k. (conv n a b k + part old at k) % q)) old
-  sums-added at old new e = e ∙ ap (λ (l : List ℕ). written at l old) (tabulate-cong n (λ k l. ap (λ (x : ℕ). (x + part old at k) % q) (sums-folded l)))
+  pub sums-added : (at : ℕ) (old : List ℕ) {new : List ℕ} → new ≡ written at (tabulate n (λ k. (getD low k 0 + getD low (n + k) 0 + part old at k) % q)) old → new ≡ written at (tabulate n (λ k. (conv n a b k + part old at k) % q)) old
+  sums-added at old e = e ∙ ap (λ (l : List ℕ). written at l old) (tabulate-cong n (λ k l. ap (λ (x : ℕ). (x + part old at k) % q) (sums-folded l)))

@@ -10,7 +10,7 @@ use native.Mathlib.Decide.{decLt}
 use native.Mathlib.Omega.{arith}
 use mathlib.Core.Path.{_≡_, refl, sym, _∙_, ap}
 use lib.Pow.{pow-add, pow-mono}
-use Rattle.products.specs.Halvings.{Fit}
+use Rattle.products.specs.Products.{Fit}
 
 pub record Leaves (levels leaves : ℕ) : Type 0 where
   pub some : 0 < leaves

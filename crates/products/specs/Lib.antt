@@ -1,2 +1,2 @@
--- How a product is halved.
-pub mod Halvings
+-- What a product asks and gives, and how it is halved.
+pub mod Products

@@ -1,16 +1,27 @@
 // Products in R_q over the work words (01, "Ring, monomials, octets"): the product of two polynomials by Karatsuba, in an array of its
 // own, then t^n = 1 and one reduction; a short one is summed row by row from where its factors stand. Nothing is refused: callers keep
-// parts within the words and coefficients below q. Contracts cite ring's productAdded; those of the steps also specs/Halvings.antt.
+// parts within the words and coefficients below q. Contracts cite ring's productAdded; those of the steps also specs/Products.antt.
 ghost use mathlib.Core.Path.{_≡_};
-ghost use Prim.Native.Nat.{ℕ, _+_, _*_, _^_, _%_, _/_, _<_, _≤_};
+ghost use Prim.Native.Nat.{ℕ, _+_, _*_, _%_, _/_, _<_, _≤_};
 ghost use lib.ListN.{length, getD};
 ghost use Rattle.definitions.specs.Sequences.{tabulate};
-ghost use Rattle.definitions.specs.Ring.{InRing, elementOf, modulo};
+ghost use Rattle.definitions.specs.Ring.{InRing, elementOf};
 ghost use Rattle.ring.specs.Work.{part, written, productAdded};
-ghost use Rattle.products.specs.Halvings.{Fit};
+ghost use Rattle.products.specs.Products.{Within, taken, Fit};
 
 // The most coefficients of a product that is summed row by row.
 const SHORT: usize = 80;
+
+// The product a × b + c in R_q, to be taken in place: the elements of n coefficients stand from these offsets on in the work words, and top
+// is a bound of b's coefficients.
+struct Product {
+    a: usize,
+    b: usize,
+    c: usize,
+    n: usize,
+    q: u32,
+    top: u32,
+}
 
 // How a product of n coefficients is halved: so many times, down to leaves of at most 80; m is leaf times 2^levels.
 struct Halving {
@@ -36,30 +47,6 @@ fn split(n: usize) -> Halving
         leaf: leaf,
         m: leaf * leaves,
     }
-}
-
-// The element at a place, reduced.
-fn reduce(words: &mut [u32], at: usize, n: usize, q: u32)
-    requires { ⌜ (at + n ≤ length (now words)) × (0 < q) ⌝ }
-    ensures { λ _. ⌜ now (words .exit) ≡ written at (tabulate n (λ k. part (now (words .entry)) at k % q)) (now (words .entry)) ⌝ }
-{
-    let mut k = 0;
-    while k < n {
-        words[at + k] = words[at + k] % q;
-        k += 1;
-    }
-}
-
-// The element at from, reduced, to a place of other words; where q is not below 16 it is reduced already.
-fn load(words: &mut [u32], at: usize, work: &[u32], from: usize, n: usize, q: u32)
-    requires { ⌜ (at + n ≤ length (now words)) × (from + n ≤ length (now work)) × (0 < q) × (16 ≤ q → InRing q n (part (now work) from)) ⌝ }
-    ensures { λ _. ⌜ now (words .exit) ≡ written at (tabulate n (λ k. part (now (work .entry)) from k % q)) (now (words .entry)) ⌝ }
-{
-    ring::copy_from(words, at, work, from, n);
-    if q >= 16 {
-        return;
-    }
-    reduce(words, at, n, q);
 }
 
 // The sum of three coefficients modulo q.
@@ -99,100 +86,85 @@ fn fold_sums(work: &mut [u32], c: usize, n: usize, q: u32, reciprocal: u64, low:
     }
 }
 
-// In place c := a × b + c in R_q, row by row: short enough that the sums fit a word; top is a bound of b's coefficients.
-fn short(work: &mut [u32], a: usize, b: usize, c: usize, n: usize, q: u32, top: u32)
-    requires { ⌜ (a + n ≤ length (now work)) × (b + n ≤ length (now work)) × (c + n ≤ length (now work)) × (n ≤ 80) × (0 < q) × (q < 2147483648) × (top ≤ 2147483648) × (q * top ≤ 230584300867682304) ⌝ }
-    requires { ⌜ InRing q n (part (now work) a) × InRing top n (part (now work) b) ⌝ }
-    ensures { λ _. ⌜ now (work .exit) ≡ productAdded n q a b c (now (work .entry)) ⌝ }
+// The product of p, row by row: short enough that the sums fit a word.
+fn short(work: &mut [u32], p: Product)
+    requires { ⌜ Within p (now work) × (p .n ≤ 80) × (p .q * p .top ≤ 230584300867682304) ⌝ }
+    ensures { λ _. ⌜ now (work .exit) ≡ taken p (now (work .entry)) ⌝ }
 {
     let mut low = [0u64; 168];
-    rows::sums(work, a, b, n, q, top, &mut low);
-    let reciprocal = reduction::reciprocal(q);
-    fold_sums(work, c, n, q, reciprocal, &low);
+    rows::sums(work, p.a, p.b, p.n, p.q, p.top, &mut low);
+    let reciprocal = reduction::reciprocal(p.q);
+    fold_sums(work, p.c, p.n, p.q, reciprocal, &low);
 }
 
-// In place c := a × b + c in R_q, in other words: a from 0 on and b from m on, each filled up with 0, their product from 2 m on, and behind
-// it the words that Karatsuba's product needs; top is a bound of b's coefficients modulo q.
-fn multiply_in(
-    work: &mut [u32],
-    a: usize,
-    b: usize,
-    c: usize,
-    n: usize,
-    q: u32,
-    top: u32,
-    h: Halving,
-    words: &mut [u32],
-)
-    requires { ⌜ (a + n ≤ length (now work)) × (b + n ≤ length (now work)) × (c + n ≤ length (now work)) × (0 < q) × (q < 2147483648) ⌝ }
-    requires { ⌜ Fit n h × (6 * h .m ≤ length (now words)) × InRing 1 (2 * h .m) (elementOf (now words)) ⌝ }
-    requires { ⌜ (0 < top) × (top ≤ q) × InRing q n (part (now work) a) × InRing top n (modulo q (part (now work) b)) × (16 ≤ q → InRing q n (part (now work) b)) ⌝ }
-    ensures { λ _. ⌜ now (work .exit) ≡ productAdded n q a b c (now (work .entry)) ⌝ }
+// The product of p in other words: a from 0 on and b from m on, each filled up with 0, their product from 2 m on, and behind it the words
+// that Karatsuba's product needs.
+fn multiply_in(work: &mut [u32], p: Product, h: Halving, words: &mut [u32])
+    requires { ⌜ Within p (now work) × Fit (p .n) h × (6 * h .m ≤ length (now words)) × InRing 1 (2 * h .m) (elementOf (now words)) ⌝ }
+    ensures { λ _. ⌜ now (work .exit) ≡ taken p (now (work .entry)) ⌝ }
 {
     let m = h.m;
-    let levels = h.levels;
-    let leaf = h.leaf;
     let at = m + m;
     let free = at + at;
-    load(words, 0, work, a, n, q);
-    load(words, m, work, b, n, q);
-    let reciprocal = reduction::reciprocal(q);
-    karatsuba::multiply(words, 0, m, at, free, levels, leaf, m, q, top, reciprocal);
-    fold(work, c, n, q, reciprocal, words, at);
+    ring::copy_from(words, 0, work, p.a, p.n);
+    ring::copy_from(words, m, work, p.b, p.n);
+    let reciprocal = reduction::reciprocal(p.q);
+    karatsuba::multiply(
+        words,
+        0,
+        m,
+        at,
+        free,
+        h.levels,
+        h.leaf,
+        m,
+        p.q,
+        p.top,
+        reciprocal,
+    );
+    fold(work, p.c, p.n, p.q, reciprocal, words, at);
 }
 
 // The same in an array of the least of three sizes: what it is cleared by is then little beside the product.
-fn multiply_below(work: &mut [u32], a: usize, b: usize, c: usize, n: usize, q: u32, top: u32)
-    requires { ⌜ (a + n ≤ length (now work)) × (b + n ≤ length (now work)) × (c + n ≤ length (now work)) × (n ≤ 4096) × (0 < q) × (q < 2147483648) ⌝ }
-    requires { ⌜ (0 < top) × (top ≤ q) × InRing q n (part (now work) a) × InRing top n (modulo q (part (now work) b)) × (16 ≤ q → InRing q n (part (now work) b)) ⌝ }
-    ensures { λ _. ⌜ now (work .exit) ≡ productAdded n q a b c (now (work .entry)) ⌝ }
+fn multiply_long(work: &mut [u32], p: Product)
+    requires { ⌜ Within p (now work) × (p .n ≤ 4096) ⌝ }
+    ensures { λ _. ⌜ now (work .exit) ≡ taken p (now (work .entry)) ⌝ }
 {
-    let h = split(n);
+    let h = split(p.n);
     let m = h.m;
     if m <= 80 {
         let mut words = [0u32; 480];
-        multiply_in(work, a, b, c, n, q, top, h, &mut words);
+        multiply_in(work, p, h, &mut words);
         return;
     }
     if m <= 1280 {
         let mut words = [0u32; 7680];
-        multiply_in(work, a, b, c, n, q, top, h, &mut words);
+        multiply_in(work, p, h, &mut words);
         return;
     }
     let mut words = [0u32; 24576];
-    multiply_in(work, a, b, c, n, q, top, h, &mut words);
+    multiply_in(work, p, h, &mut words);
 }
 
-// In place c := a × b + c in R_q; limit is a bound of b's coefficients.
-fn multiply_bounded(work: &mut [u32], a: usize, b: usize, c: usize, n: usize, q: u32, limit: u32)
-    requires { ⌜ (a + n ≤ length (now work)) × (b + n ≤ length (now work)) × (c + n ≤ length (now work)) × (n ≤ 4096) × (0 < q) × (q < 2147483648) ⌝ }
-    requires { ⌜ (0 < limit) × (limit < 2147483648) × InRing q n (part (now work) a) × InRing limit n (part (now work) b) × (16 ≤ q → InRing q n (part (now work) b)) ⌝ }
+// In place c := a × b + c in R_q; top is a bound of b's coefficients. All other words are kept.
+pub fn multiply_add(work: &mut [u32], a: usize, b: usize, c: usize, n: usize, q: u32, top: u32)
+    requires { ⌜ (a + n ≤ length (now work)) × (b + n ≤ length (now work)) × (c + n ≤ length (now work)) × (n ≤ 4096) × (0 < top) × (top ≤ q) × (q < 2147483648) ⌝ }
+    requires { ⌜ InRing q n (part (now work) a) × InRing top n (part (now work) b) ⌝ }
     ensures { λ _. ⌜ now (work .exit) ≡ productAdded n q a b c (now (work .entry)) ⌝ }
 {
+    let p = Product {
+        a: a,
+        b: b,
+        c: c,
+        n: n,
+        q: q,
+        top: top,
+    };
     if n <= SHORT {
-        if (q as u64) * (limit as u64) <= rows::UNCUT {
-            short(work, a, b, c, n, q, limit);
+        if (q as u64) * (top as u64) <= rows::UNCUT {
+            short(work, p);
             return;
         }
     }
-    let top = if q < limit { q } else { limit };
-    multiply_below(work, a, b, c, n, q, top);
-}
-
-// In place c := a × b + c in R_q; all other words are kept.
-pub fn multiply_add(work: &mut [u32], a: usize, b: usize, c: usize, n: usize, q: u32)
-    requires { ⌜ (a + n ≤ length (now work)) × (b + n ≤ length (now work)) × (c + n ≤ length (now work)) × (n ≤ 4096) × (0 < q) × (q < 2147483648) ⌝ }
-    requires { ⌜ InRing q n (part (now work) a) × InRing q n (part (now work) b) ⌝ }
-    ensures { λ _. ⌜ now (work .exit) ≡ productAdded n q a b c (now (work .entry)) ⌝ }
-{
-    multiply_bounded(work, a, b, c, n, q, q);
-}
-
-// As multiply_add, where the coefficients of b are below 16.
-pub fn multiply_add_small(work: &mut [u32], a: usize, b: usize, c: usize, n: usize, q: u32)
-    requires { ⌜ (a + n ≤ length (now work)) × (b + n ≤ length (now work)) × (c + n ≤ length (now work)) × (n ≤ 4096) × (0 < q) × (q < 2147483648) ⌝ }
-    requires { ⌜ InRing q n (part (now work) a) × InRing 16 n (part (now work) b) ⌝ }
-    ensures { λ _. ⌜ now (work .exit) ≡ productAdded n q a b c (now (work .entry)) ⌝ }
-{
-    multiply_bounded(work, a, b, c, n, q, 16);
+    multiply_long(work, p);
 }

@@ -17,7 +17,7 @@ use Rattle.definitions.specs.Monomials.{polynomialOf, value}
 use Rattle.definitions.specs.Octets.{coefficientAt}
 use Rattle.definitions.specs.Calls.{secretX, secretY, secretPadded, decodedElements, polynomialFrom, elementsFit}
 use Rattle.definitions.proofs.Refusals.{firstRefusal-applies, firstRefusal-passes, firstRefusal-last}
-use Rattle.definitions.proofs.Parameters.{Accepted, accepted-set, modulus-positive, modulus-word, qlen-least, qlen-most, range-most}
+use Rattle.definitions.proofs.Parameters.{Accepted, accepted-set, modulus-positive, modulus-least, modulus-word, qlen-least, qlen-most, range-most}
 use Rattle.definitions.proofs.Octets.{getD-decoded, coefficientsFit-at}
 use Rattle.definitions.proofs.Small.{smallOf-below}
 use Rattle.definitions.proofs.Values.{value-cong}
@@ -56,8 +56,8 @@ module _ (p : Parameters) (d : ℕ) (secret octets : List ℕ) where
     unfolding elementsFit decodedElements
     value-coefficients e m l = coefficientsFit-at (p .q) (qlen (p .q)) (monomialCount d * p .n) octets e l
 
-    pub value-modulus : (0 < p .q) × (p .q < 2147483648)
-    value-modulus = (modulus-positive p set, omega (arith, set .modulus-most))
+    pub value-modulus : (16 ≤ p .q) × (p .q < 2147483648)
+    value-modulus = (omega (arith, modulus-least p set), omega (arith, set .modulus-most))
 
     module _ {mid : List ℕ} (u : Unpacked p secret mid) where
       pub unpacked-x : InRing 16 (p .n) (part mid 0)

@@ -39,7 +39,7 @@ fn prepare_element(
     mask_products::clear_sum(work, n, q);
     values::load(public, i, n, qlen, work, spare);
     ring::copy_from(keys, at, work, spare, n);
-    products::multiply_add(work, spare, at, total, n, q);
+    products::multiply_add(work, spare, at, total, n, q, q);
     ring::copy_from(diagonal, at, work, total, n);
 }
 
@@ -86,7 +86,7 @@ fn multiply_sums(i: usize, j: usize, n: usize, q: u32, work: &mut [u32], keys: &
     let total = 7 * n;
     load_sum(i, j, n, q, work, keys);
     ring::add(work, at, other, n, q);
-    products::multiply_add(work, spare, at, total, n, q);
+    products::multiply_add(work, spare, at, total, n, q, q);
     ring::subtract(work, at, other, n, q);
 }
 

@@ -37,13 +37,13 @@ fn fold_term(
     q: u32,
     work: &mut [u32],
 )
-    requires { ⌜ Sizes n qlen (now work) × (element < 15) × (element * n * qlen + n * qlen ≤ length (now octets)) × (j < 5) × (0 < q) × (q < 2147483648) ⌝ }
+    requires { ⌜ Sizes n qlen (now work) × (element < 15) × (element * n * qlen + n * qlen ≤ length (now octets)) × (j < 5) × (16 ≤ q) × (q < 2147483648) ⌝ }
     requires { ⌜ InRing q n (slot n (now work) j) × InRing 16 n (part (now work) 0) ⌝ }
     ensures { λ _. ⌜ Placed n ((2 + j) * n) (λ k. (conv n (slot n (now (work .entry)) j) (part (now (work .entry)) 0) k + flat n qlen (now (octets .entry)) element k) % q) (now (work .entry)) (now (work .exit)) ⌝ }
 {
     load(octets, element, n, qlen, work, 7 * n);
     let at = (2 + j) * n;
-    products::multiply_add_small(work, at, 0, 7 * n, n, q);
+    products::multiply_add(work, at, 0, 7 * n, n, q, 16);
     ring::copy(work, at, 7 * n, n);
 }
 
@@ -57,14 +57,14 @@ fn fold_last(
     q: u32,
     work: &mut [u32],
 )
-    requires { ⌜ Sizes n qlen (now work) × (element < 15) × (element * n * qlen + n * qlen ≤ length (now octets)) × (j < 4) × (0 < q) × (q < 2147483648) ⌝ }
+    requires { ⌜ Sizes n qlen (now work) × (element < 15) × (element * n * qlen + n * qlen ≤ length (now octets)) × (j < 4) × (16 ≤ q) × (q < 2147483648) ⌝ }
     requires { ⌜ InRing q n (slot n (now work) j) × InRing q n (slot n (now work) (j + 1)) × InRing 16 n (part (now work) 0) × InRing 16 n (part (now work) n) ⌝ }
     ensures { λ _. ⌜ Placed n ((2 + j) * n) (λ k. (conv n (slot n (now (work .entry)) j) (part (now (work .entry)) 0) k + conv n (slot n (now (work .entry)) (j + 1)) (part (now (work .entry)) n) k + flat n qlen (now (octets .entry)) element k) % q) (now (work .entry)) (now (work .exit)) ⌝ }
 {
     load(octets, element, n, qlen, work, 7 * n);
     let at = (2 + j) * n;
-    products::multiply_add_small(work, at, 0, 7 * n, n, q);
-    products::multiply_add_small(work, at + n, n, 7 * n, n, q);
+    products::multiply_add(work, at, 0, 7 * n, n, q, 16);
+    products::multiply_add(work, at + n, n, 7 * n, n, q, 16);
     ring::copy(work, at, 7 * n, n);
 }
 
@@ -78,7 +78,7 @@ fn fold_degree(
     q: u32,
     work: &mut [u32],
 )
-    requires { ⌜ Sizes n qlen (now work) × (0 < k) × (k ≤ 4) × (from + k ≤ 15) × ((from + k) * n * qlen ≤ length (now octets)) × (0 < q) × (q < 2147483648) ⌝ }
+    requires { ⌜ Sizes n qlen (now work) × (0 < k) × (k ≤ 4) × (from + k ≤ 15) × ((from + k) * n * qlen ≤ length (now octets)) × (16 ≤ q) × (q < 2147483648) ⌝ }
     requires { ⌜ ((i : ℕ) → i ≤ k → InRing q n (slot n (now work) i)) ⌝ }
     requires { ⌜ InRing 16 n (part (now work) 0) × InRing 16 n (part (now work) n) ⌝ }
     ensures { λ _. ⌜ FoldedDegree n q k (λ i. flat n qlen (now (octets .entry)) (from + i)) (now (work .entry)) (now (work .exit)) ⌝ }
@@ -105,7 +105,7 @@ fn load_highest(octets: &[u8], d: usize, n: usize, qlen: usize, work: &mut [u32]
 
 // The value of the polynomial of degree d in the octets, into the third part.
 pub fn evaluate(octets: &[u8], d: usize, n: usize, qlen: usize, q: u32, work: &mut [u32])
-    requires { ⌜ Sizes n qlen (now work) × (0 < d) × (d ≤ 4) × (length (now octets) ≡ monomialCount d * n * qlen) × (0 < q) × (q < 2147483648) ⌝ }
+    requires { ⌜ Sizes n qlen (now work) × (0 < d) × (d ≤ 4) × (length (now octets) ≡ monomialCount d * n * qlen) × (16 ≤ q) × (q < 2147483648) ⌝ }
     requires { ⌜ ((m : ℕ) → m < monomialCount d * n → coefficientAt qlen (now octets) m < q) ⌝ }
     requires { ⌜ InRing 16 n (part (now work) 0) × InRing 16 n (part (now work) n) ⌝ }
     ensures { λ _. ⌜ ((k : ℕ) → k < n → part (now (work .exit)) (2 * n) k ≡ value n d (flat n qlen (now (octets .entry))) (part (now (work .entry)) 0) (part (now (work .entry)) n) k % q) ⌝ }

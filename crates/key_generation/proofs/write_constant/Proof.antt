@@ -19,7 +19,7 @@ inside : (c : tie.After-evaluate) → 2 * c .before .before .before .before .bef
 inside c = omega (arith, c .evaluate .kept .1 .1 .1 .1 .1 .0, c .before .before .before .before .before .pre .0 .0 .room)
 
 negate-requires : tie.Need-negate-requires
-negate-requires c κs = (inside (c .before .before .before), (λ k l. rw (c .before .before .before .evaluate .ensures k l) (mod-lt _ (c .before .before .before .before .before .before .before .before .pre .0 .4))))
+negate-requires c κs = (inside (c .before .before .before), (λ k l. rw (c .before .before .before .evaluate .ensures k l) (mod-lt _ (omega (arith, c .before .before .before .before .before .before .before .before .pre .0 .4)))))
 
 mul-from : tie.Need-mul-from
 mul-from c = let sizes = c .before .before .before .before .before .before .before .before .before .before .before .pre .0 .0 in

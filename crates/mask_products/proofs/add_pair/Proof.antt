@@ -55,7 +55,7 @@ multiply-add-requires c κs =
     let load = c .before .before .before .load in
     let few : a .j * a .n + a .n ≤ 6 * a .n = part-room (a .n) (a .j) 6 (omega (arith, count-six (a .dr) (g .mask-degree), s .pre .2)) in
     let words : length (load .last .1 .1 .1 .1 .0) ≡ 8 * a .n = load .kept .1 .1 .1 .1 .0 ∙ g .sizes .room in (
-      (omega arith, omega arith, omega arith, g .sizes .most, g .modulus-least, g .modulus-most),
+      (omega arith, omega arith, omega arith, g .sizes .most, g .modulus-least, omega arith, g .modulus-most),
       (key-loaded g (s .pre .1) (load .ensures), mask-loaded g (a .i) (s .pre .2) few (load .ensures)),
     )
 

@@ -1,83 +1,76 @@
--- `products::multiply_in` meets its contract: the factors are loaded reduced and filled up with 0, and their product is folded.
+-- `products::multiply_in` meets its contract: the factors are filled up with 0, and their product is folded.
 -- Assumes nothing.
 use native.Mathlib.Omega.{arith}
 use borrow.Author.Needs.{needs}
 use Prim.Native.Nat.{_+_}
-use mathlib.Core.Path.{_∙_}
 use Rattle.ring.specs.Work.{part}
-use Rattle.products.proofs.Loading.{Loaded, loaded-both, loaded-below, reduced-below}
+use Rattle.products.proofs.Loading.{Loaded, loaded-front, loaded-behind, loaded-below}
 use Rattle.products.proofs.Folding.{product-added}
 use Rattle.products.proofs.multiply_in.Statement.{statement}
 use Rattle.products.proofs.multiply_in.Tie as tie
 
+-- the places: behind the first copy, behind the second, and behind the product
+abbrev start : tie.After-copy-from → tie.Start
+start c = c .before .before .before .before .before
+
+abbrev first : tie.After-copy-from2 → tie.After-copy-from
+first c = c .before .before .before .before .before
+
+abbrev second : tie.After-reciprocal → tie.After-copy-from2
+second c = c .before .before .before
+
+abbrev third : tie.After-fold → tie.After-multiply
+third c = c .before .before .before .before .before
+
 -- the two factors in the words
-factors : (c : tie.After-load2) → let a = c .before .before .before .before .before .before .before .before .before .before .args in Loaded (a .n) (a .h .m) (a .q) (part (a .work .now) (a .a)) (part (c .load2 .last .0) 0) × Loaded (a .n) (a .h .m) (a .q) (part (a .work .now) (a .b)) (part (c .load2 .last .0) (a .h .m))
+factors : (c : tie.After-copy-from2) → let a = start (first c) .args in
+    Loaded (a .p .n) (a .h .m) (part (a .work .now) (a .p .a)) (part (c .copy-from2 .last .0) 0) × Loaded (a .p .n) (a .h .m) (part (a .work .now) (a .p .b)) (part (c .copy-from2 .last .0) (a .h .m))
 factors c =
-    let start = c .before .before .before .before .before .before .before .before .before .before in
-    let a = start .args in
-    let load = c .before .before .before .before .before .load in
-    loaded-both (a .n) (a .h .m) (a .q) (part (a .work .now) (a .a)) (part (a .work .now) (a .b)) (a .words .now) (load .last .0) (c .load2 .last .0) (start .pre .1 .0 .0 .enough) (omega (arith, start .pre .1 .0 .1)) (start .pre .1 .0 .2) (load .ensures) (c .load2 .ensures)
-
-add-at : tie.Need-add-at
-add-at c = omega (arith, c .before .before .pre .1 .0 .0 .most)
-
-add-free : tie.Need-add-free
-add-free c = omega (arith, c .before .before .pre .1 .0 .0 .most)
-
-reciprocal-requires : tie.Need-reciprocal-requires
-reciprocal-requires c κs = c .before .before .before .before .before .before .before .before .before .before .before .before .pre .0 .3
+    let s = start (first c) in
+    let a = s .args in
+    let w = a .work .now in
+    let copied = first c .copy-from in (
+      loaded-front (a .p .n) (a .h .m) (part w (a .p .a)) (part w (a .p .b)) (a .words .now) _ _ (s .pre .1 .enough) (omega arith) (s .pre .3) (copied .ensures) (c .copy-from2 .ensures),
+      loaded-behind (a .p .n) (a .h .m) (part w (a .p .a)) (part w (a .p .b)) (a .words .now) _ _ (s .pre .1 .enough) (omega arith) (s .pre .3) (copied .ensures) (c .copy-from2 .ensures),
+    )
 
 multiply-requires : tie.Need-multiply-requires
 multiply-requires c κs =
-    let start = c .before .before .before .before .before .before .before .before .before .before .before .before .before .before in
-    let a = start .args in
-    let fit = start .pre .1 .0 .0 in
-    let load = c .before .before .before .before .before .before .before .before .before .load in
-    let load2 = c .before .before .before .before .load2 in
-    let both = factors (c .before .before .before .before) in (
-      (fit .whole, fit .short, fit .most, omega arith, omega arith, omega arith, omega (arith, load .kept, load2 .kept, start .pre .1 .0 .1)),
+    let copied = second (c .before) in
+    let pre = start (first copied) .pre in
+    let within = pre .0 in
+    let both = factors copied in (
+      (pre .1 .whole, pre .1 .short, pre .1 .most, omega arith, omega arith, omega arith, omega (arith, copied .copy-from2 .kept, first copied .copy-from .kept)),
       (
-        (start .pre .1 .1 .1, start .pre .0 .3, start .pre .0 .4, c .before .reciprocal .ensures),
-        (
-          loaded-below (both .0) (start .pre .0 .3) (reduced-below (a .n) (part (a .work .now) (a .a)) (start .pre .0 .3)),
-          loaded-below (both .1) (start .pre .1 .1 .0) (start .pre .1 .1 .3),
-        ),
+        (within .top-most, omega (arith, within .top-least, within .top-most), within .modulus-most, c .before .reciprocal .ensures),
+        (loaded-below (both .0) (omega (arith, within .top-least, within .top-most)) (within .first-ring), loaded-below (both .1) (within .top-least) (within .second-ring)),
       ),
     )
 
-fold-requires : tie.Need-fold-requires
-fold-requires c κs =
-    let start = c .before .before .before .before .before .before .before .before .before .before .before .before .before .before .before .before .before .before .before in
-    let fit = start .pre .1 .0 .0 in
-    (start .pre .0 .2, omega (arith, c .before .before .before .before .before .before .before .before .before .before .before .before .before .before .load .kept, c .before .before .before .before .before .before .before .before .before .load2 .kept, c .before .before .before .before .multiply .kept, fit .enough, start .pre .1 .0 .1), start .pre .0 .3, start .pre .0 .4, c .before .before .before .before .before .before .reciprocal .ensures)
-
-same-length : tie.Need-same-length
-same-length c = c .before .before .fold .kept .0
-
-same-length-2 : tie.Need-same-length-2
-same-length-2 c = c .before .before .before .before .before .before .before .multiply .kept .0 ∙ c .before .before .before .before .before .before .before .before .before .before .before .before .load2 .kept .0 ∙ c .before .before .before .before .before .before .before .before .before .before .before .before .before .before .before .before .before .load .kept .0
-
 returns : tie.Need-returns
 returns c =
-    let start = c .before .before .before .before .before .before .before .before .before .before .before .before .before .before .before .before .before .before .before .before .before .before in
-    let a = start .args in
-    let loaded = c .before .before .before .before .before .before .before .before .before .before .before .before in
-    let multiply = c .before .before .before .before .before .before .before .multiply in
-    let words = loaded .load2 .last .0 in
-    let m = a .h .m in
-    product-added (a .n) m (a .q) (part (a .work .now) (a .a)) (part (a .work .now) (a .b)) (part words 0) (part words m) (part (multiply .last .0) (m + m)) (start .pre .1 .0 .0 .enough) (factors loaded .0) (factors loaded .1) (multiply .ensures .same) (a .c) (a .work .now) (c .before .before .fold .last .0) (c .before .before .fold .ensures)
+    let folded = c .before .before in
+    let multiplied = third folded in
+    let copied = second (multiplied .before .before) in
+    let s = start (first copied) in
+    let p = s .args .p in
+    let w = s .args .work .now in
+    let m = s .args .h .m in
+    let both = factors copied in
+    product-added (p .n) m (p .q) (part w (p .a)) (part w (p .b)) (part (copied .copy-from2 .last .0) 0) (part (copied .copy-from2 .last .0) m) (part (multiplied .multiply .last .0) (m + m))
+    (s .pre .1 .enough) (both .0) (both .1) (multiplied .multiply .ensures .same) (p .c) w (folded .fold .ensures)
 
 pub multiply-in-spec : {M : Type 1} → statement M
 multiply-in-spec =
     tie.close
     (tie.spec
-    add-at
-    add-free
+    (λ c. search needs)
+    (λ c. search needs)
     (λ c κs. search needs)
     (λ c κs. search needs)
-    reciprocal-requires
+    (λ c κs. search needs)
     multiply-requires
-    fold-requires
-    same-length
-    same-length-2
+    (λ c κs. search needs)
+    (λ c. search needs)
+    (λ c. search needs)
     returns)

@@ -39,7 +39,7 @@ multiply-add-requires c κs =
     let inside = part-room (a .n) (a .i) 6 (s .pre .first) in
     let sums = sums-stand (s .pre .room) inside (part-room (a .n) (a .j) (a .i) (s .pre .second)) (c .before .before .before .before .before .before .before .load-sum .ensures) (c .before .before .before .add .ensures) in
     let long = sums .as-long in (
-      (omega (arith, s .pre .room), omega (arith, s .pre .room), omega (arith, s .pre .room), s .pre .most, s .pre .modulus-least, s .pre .modulus-most),
+      (omega (arith, s .pre .room), omega (arith, s .pre .room), omega (arith, s .pre .room), s .pre .most, s .pre .modulus-least, omega arith, s .pre .modulus-most),
       sums-inRing (s .pre .modulus-least) (λ k l. mod-lt _ (s .pre .modulus-least)) sums,
     )
 

@@ -30,7 +30,7 @@ multiply-add-requires c κs =
     let g = inputs-kept (s .pre .0) (c .before .before .before .before .before .before .before .before .before .before .before .before .clear-sum .ensures) in
     let few : a .i * a .n + a .n ≤ 6 * a .n = part-room (a .n) (a .i) 6 (omega (arith, count-six (a .d) (g .key-degree), s .pre .1)) in
     let words : length (c .before .before .before .before .before .before .before .before .load .last .1 .1 .1 .1 .0) ≡ 8 * a .n = c .before .before .before .before .before .before .before .before .load .kept .1 .1 .1 .1 .0 ∙ g .sizes .room in (
-      (omega arith, omega arith, omega arith, g .sizes .most, g .modulus-least, g .modulus-most),
+      (omega arith, omega arith, omega arith, g .sizes .most, g .modulus-least, omega arith, g .modulus-most),
       (key-loaded g (s .pre .1) (c .before .before .before .before .before .before .before .before .load .ensures), mask-loaded g (a .i) (s .pre .1) few (c .before .before .before .before .before .before .before .before .load .ensures)),
     )
 

@@ -106,7 +106,7 @@ loop-again c =
     let a = c .before .before .before .before .before .before .before .before .before .before .before .before .args in
     let p = c .before .before .before .before .before .before .before .before .before .before .before .before .pre in
     let l = c .before .before .before .before .before .loop in
-    stage-turn (a .n) (a .q) (a .qlen) (a .d) (a .octets .now) _ (p .1 .0) (l .k) (l .from) (l .work) _ (p .0 .4)
+    stage-turn (a .n) (a .q) (a .qlen) (a .d) (a .octets .now) _ (p .1 .0) (l .k) (l .from) (l .work) _ (omega (arith, p .0 .4))
     (c .before .before .before .before .loop-test .taken) (l .inv) (c .before .before .fold-degree .ensures) (c .before .before .fold-degree .kept .1 .1 .1 .1 .1 .1 .0)
 
 same-length : tie.Need-same-length Inv-loop μ-loop

@@ -33,70 +33,70 @@ next n j = omega arith
 mul-at : tie.Need-mul-at
 mul-at c = let a = c .before .before .before .before .before .before .args in omega (arith, room (a .n) (a .j) (omega arith))
 
-mul-multiply-add-small : tie.Need-mul-multiply-add-small
-mul-multiply-add-small c = omega arith
+mul-multiply-add : tie.Need-mul-multiply-add
+mul-multiply-add c = omega arith
 
 loaded : (c : tie.After-load) → Spare (c .before .before .before .before .args .n) (flat (c .before .before .before .before .args .n) (c .before .before .before .before .args .qlen) (c .before .before .before .before .args .octets .now) (c .before .before .before .before .args .element)) (c .before .before .before .before .args .work .now) (c .load .last .1 .1 .1 .1 .0)
 loaded c = spare-load _ _ (c .before .before .before .before .pre .0 .0 .room) _ _ (c .load .ensures)
 
-multiply-add-small-requires : tie.Need-multiply-add-small-requires
-multiply-add-small-requires c κs =
+multiply-add-requires : tie.Need-multiply-add-requires
+multiply-add-requires c κs =
     let a = c .before .before .before .before .before .before .before .args in
     let p = c .before .before .before .before .before .before .before .pre in
     let s = loaded (c .before .before .before) in
     let h : (2 + a .j) * a .n + a .n + a .n ≤ 7 * a .n = room (a .n) (a .j) (p .0 .3) in
     let e : length (c .before .before .before .load .last .1 .1 .1 .1 .0) ≡ 8 * a .n = s .as-long ∙ p .0 .0 .room in (
-      (omega arith, omega arith, omega arith, p .0 .0 .most, p .0 .4, p .0 .5),
+      (omega arith, omega arith, omega arith, p .0 .0 .most, omega arith, p .0 .4, p .0 .5),
       (
         inRing-kept (a .n) (a .work .now) (p .0 .0 .room) s (a .q) ((2 + a .j) * a .n) (omega arith) (p .1 .0),
         inRing-kept (a .n) (a .work .now) (p .0 .0 .room) s 16 0 (omega arith) (p .1 .2),
       ),
     )
 
-added : (c : tie.After-multiply-add-small) →
+added : (c : tie.After-multiply-add) →
     let a = c .before .before .before .before .before .before .before .before .args in
-    Spare (a .n) (λ k. (conv (a .n) (slot (a .n) (a .work .now) (a .j)) (part (a .work .now) 0) k + flat (a .n) (a .qlen) (a .octets .now) (a .element) k) % a .q) (a .work .now) (c .multiply-add-small .last .0)
+    Spare (a .n) (λ k. (conv (a .n) (slot (a .n) (a .work .now) (a .j)) (part (a .work .now) 0) k + flat (a .n) (a .qlen) (a .octets .now) (a .element) k) % a .q) (a .work .now) (c .multiply-add .last .0)
 added c =
     let a = c .before .before .before .before .before .before .before .before .args in
     let p = c .before .before .before .before .before .before .before .before .pre in
     let h : (2 + a .j) * a .n + a .n + a .n ≤ 7 * a .n = room (a .n) (a .j) (p .0 .3) in
-    spare-product (a .n) (a .work .now) (p .0 .0 .room) (loaded (c .before .before .before .before)) (a .q) ((2 + a .j) * a .n) 0 _ (omega arith) (omega arith) (c .multiply-add-small .ensures)
+    spare-product (a .n) (a .work .now) (p .0 .0 .room) (loaded (c .before .before .before .before)) (a .q) ((2 + a .j) * a .n) 0 _ (omega arith) (omega arith) (c .multiply-add .ensures)
 
-add-multiply-add-small : tie.Need-add-multiply-add-small
-add-multiply-add-small c =
+add-multiply-add : tie.Need-add-multiply-add
+add-multiply-add c =
     let a = c .before .before .before .before .before .before .before .before .before .before .before .args in
     let p = c .before .before .before .before .before .before .before .before .before .before .before .pre in
     omega (arith, room (a .n) (a .j) (p .0 .3), p .0 .0 .most)
 
-mul-multiply-add-small-2 : tie.Need-mul-multiply-add-small-2
-mul-multiply-add-small-2 c =
+mul-multiply-add-2 : tie.Need-mul-multiply-add-2
+mul-multiply-add-2 c =
     let p = c .before .before .before .before .before .before .before .before .before .before .before .pre in
     omega (arith, p .0 .0 .most)
 
-multiply-add-small-requires-2 : tie.Need-multiply-add-small-requires-2
-multiply-add-small-requires-2 c κs =
+multiply-add-requires-2 : tie.Need-multiply-add-requires-2
+multiply-add-requires-2 c κs =
     let a = c .before .before .before .before .before .before .before .before .before .before .before .args in
     let p = c .before .before .before .before .before .before .before .before .before .before .before .pre in
     let s = added (c .before .before .before) in
     let h : (2 + a .j) * a .n + a .n + a .n ≤ 7 * a .n = room (a .n) (a .j) (p .0 .3) in
-    let e : length (c .before .before .before .multiply-add-small .last .0) ≡ 8 * a .n = s .as-long ∙ p .0 .0 .room in
+    let e : length (c .before .before .before .multiply-add .last .0) ≡ 8 * a .n = s .as-long ∙ p .0 .0 .room in
     let second : InRing (a .q) (a .n) (part (a .work .now) ((2 + a .j) * a .n + a .n)) = subst (λ (m : ℕ). InRing (a .q) (a .n) (part (a .work .now) m)) (next (a .n) (a .j)) (p .1 .1) in (
-      (omega arith, omega arith, omega arith, p .0 .0 .most, p .0 .4, p .0 .5),
+      (omega arith, omega arith, omega arith, p .0 .0 .most, omega arith, p .0 .4, p .0 .5),
       (
         inRing-kept (a .n) (a .work .now) (p .0 .0 .room) s (a .q) ((2 + a .j) * a .n + a .n) h second,
         inRing-kept (a .n) (a .work .now) (p .0 .0 .room) s 16 (a .n) (omega arith) (p .1 .3),
       ),
     )
 
-both : (c : tie.After-multiply-add-small2) →
+both : (c : tie.After-multiply-add2) →
     let a = c .before .before .before .before .before .before .before .before .before .before .before .before .args in
-    Spare (a .n) (λ k. (conv (a .n) (slot (a .n) (a .work .now) (a .j)) (part (a .work .now) 0) k + conv (a .n) (slot (a .n) (a .work .now) (a .j + 1)) (part (a .work .now) (a .n)) k + flat (a .n) (a .qlen) (a .octets .now) (a .element) k) % a .q) (a .work .now) (c .multiply-add-small2 .last .0)
+    Spare (a .n) (λ k. (conv (a .n) (slot (a .n) (a .work .now) (a .j)) (part (a .work .now) 0) k + conv (a .n) (slot (a .n) (a .work .now) (a .j + 1)) (part (a .work .now) (a .n)) k + flat (a .n) (a .qlen) (a .octets .now) (a .element) k) % a .q) (a .work .now) (c .multiply-add2 .last .0)
 both c =
     let a = c .before .before .before .before .before .before .before .before .before .before .before .before .args in
     let p = c .before .before .before .before .before .before .before .before .before .before .before .before .pre in
     let h : (2 + a .j) * a .n + a .n + a .n ≤ 7 * a .n = room (a .n) (a .j) (p .0 .3) in
     spare-same (a .n) (a .work .now) (p .0 .0 .room)
-    (spare-product (a .n) (a .work .now) (p .0 .0 .room) (added (c .before .before .before .before)) (a .q) ((2 + a .j) * a .n + a .n) (a .n) _ h (omega arith) (c .multiply-add-small2 .ensures))
+    (spare-product (a .n) (a .work .now) (p .0 .0 .room) (added (c .before .before .before .before)) (a .q) ((2 + a .j) * a .n + a .n) (a .n) _ h (omega arith) (c .multiply-add2 .ensures))
     (λ k l. rw (← next (a .n) (a .j)) (two-products (a .q) _ _ _))
 
 mul-copy : tie.Need-mul-copy
@@ -107,7 +107,7 @@ copy-requires c κs =
     let a = c .before .before .before .before .before .before .before .before .before .before .before .before .before .before .before .args in
     let p = c .before .before .before .before .before .before .before .before .before .before .before .before .before .before .before .pre in
     let h : (2 + a .j) * a .n + a .n ≤ 7 * a .n = omega (arith, room (a .n) (a .j) (p .0 .3)) in
-    let e : length (c .before .before .before .multiply-add-small2 .last .0) ≡ 8 * a .n = both (c .before .before .before) .as-long ∙ p .0 .0 .room in
+    let e : length (c .before .before .before .multiply-add2 .last .0) ≡ 8 * a .n = both (c .before .before .before) .as-long ∙ p .0 .0 .room in
     (omega arith, omega arith, inl h)
 
 returns : tie.Need-returns
@@ -125,11 +125,11 @@ fold-last-spec =
     load-requires
     add-at
     mul-at
-    mul-multiply-add-small
-    multiply-add-small-requires
-    add-multiply-add-small
-    mul-multiply-add-small-2
-    multiply-add-small-requires-2
+    mul-multiply-add
+    multiply-add-requires
+    add-multiply-add
+    mul-multiply-add-2
+    multiply-add-requires-2
     mul-copy
     copy-requires
     (λ c. search needs)
