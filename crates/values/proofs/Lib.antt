@@ -1,5 +1,5 @@
-pub mod Folding
 pub mod Parts
 pub mod Turns
-pub mod Degrees
 pub mod Stages
+pub mod Horner
+pub mod Rows

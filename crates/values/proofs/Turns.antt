@@ -4,11 +4,10 @@
 --   spare-load       after an element was written there;  spare-product: after a product was added;  spare-kept: after it was copied
 --   part-kept        a part before the spare one is the same element;  inRing-kept: and its coefficients are as small
 -- Assumes nothing.
-use Prim.Native.Nat.{ℕ, _+_, _-_, _*_, _%_, _≤_, _<_}
-use native.Mathlib.Nat.{mod-add-mod, add-mod-mod, add-comm, add-assoc}
+use Prim.Native.Nat.{ℕ, _+_, _*_, _%_, _≤_, _<_}
 use native.Mathlib.Omega.{arith}
-use mathlib.Core.Path.{_≡_, refl, sym, _∙_, ap, ap₂, subst}
-use mathlib.Core.Logic.{_⊎_, ⊎-elim}
+use mathlib.Core.Path.{_≡_, _∙_, ap, ap₂}
+use mathlib.Core.Logic.{⊎-elim}
 use mathlib.Core.List.{List}
 use lib.ListN.{length, getD}
 use Rattle.definitions.specs.Sequences.{tabulate}
@@ -67,10 +66,3 @@ module _ (n : ℕ) (old : List ℕ) (room : length old ≡ 8 * n) where
               side
               ∙ s .kept i l;
         }
-
-    pub spare-same : {g : Element} → ((k : ℕ) → k < n → f k ≡ g k) → Spare n g old mid
-    spare-same h = record { spare = λ k l. s .spare k l ∙ h k l; kept = s .kept; as-long = s .as-long }
-
--- two products, added one after the other
-pub two-products : (q x y z : ℕ) → (y + (x + z) % q) % q ≡ (x + y + z) % q
-two-products q x y z = rw (add-mod-mod) (ap (λ (s : ℕ). s % q) (omega arith))

@@ -4,6 +4,7 @@ use Prim.Native.Nat.{ℕ, _*_, _≤_, _<_}
 use mathlib.Core.Path.{_≡_, sym, ap, _∙_}
 use mathlib.Core.Bool.{true}
 use mathlib.Core.List.{List}
+use native.Mathlib.Omega.{arith}
 use borrow.Author.Needs.{needs}
 use borrow.Author.Tests.{not-true, not-false}
 use Rattle.definitions.specs.Parameters.{qlen, monomialCount}
@@ -49,8 +50,9 @@ evaluate-requires c κs =
     let a = c .before .before .before .before .before .before .before .before .before .before .before .before .before .before .args in
     let e : Exact (setFrom (a .p)) (a .d) (a .secret .now) (a .octets .now) (a .work .now) = c .before .before .before .before .before .before .before .before .before .before .before .before .before .before .pre in
     let u : Unpacked (setFrom (a .p)) (a .secret .now) (c .before .before .before .before .unpack .last .1 .1 .0) = c .before .before .before .before .unpack .ensures in
+    let most : a .d ≤ 8 = omega (arith, e .degree-most) in
     rw (c .before .before .before .before .before .before .before .before .octets-of-coefficient .ensures) (
-      (value-sizes _ _ _ _ e (c .before .before .before .before .unpack .kept .1 .1 .0), e .degree-least, e .degree-most, value-octets _ _ _ _ e, value-modulus _ _ _ _ e .0, value-modulus _ _ _ _ e .1),
+      (value-sizes _ _ _ _ e (c .before .before .before .before .unpack .kept .1 .1 .0), e .degree-least, most, value-octets _ _ _ _ e, value-modulus _ _ _ _ e .0, value-modulus _ _ _ _ e .1),
       (value-coefficients _ _ _ _ e (fits (c .before .before .before .before .before .before)), (unpacked-x _ _ _ _ e u, unpacked-y _ _ _ _ e u)),
     )
 

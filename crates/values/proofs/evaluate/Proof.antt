@@ -1,129 +1,166 @@
--- `evaluate` folds one total degree after the other; at every stage the polynomial has the same value, and at the end it is a constant.
+-- `evaluate` takes a row a turn, one power of y lower each time.
 -- Assumes nothing.
-use Prim.Native.Nat.{ℕ, _+_, _*_, _%_, _≤_, _<_}
-use native.Mathlib.Nat.{mul-le-mul-right}
+use Prim.Native.Nat.{ℕ, _+_, _-_, _*_, _≤_, _<_}
 use native.Mathlib.Omega.{arith}
-use mathlib.Core.Path.{_≡_, refl, sym, ap, _∙_, subst}
+use mathlib.Core.Path.{_≡_, _∙_}
 use mathlib.Core.List.{List}
-use lib.ListN.{length, getD}
+use mathlib.Core.Logic.{inl}
+use lib.ListN.{length}
 use Rattle.definitions.specs.Parameters.{monomialCount}
 use Rattle.definitions.specs.Ring.{InRing}
-use Rattle.definitions.specs.Octets.{decoded}
-use Rattle.definitions.proofs.Octets.{length-decoded}
 use Rattle.ring.specs.Work.{part}
-use Rattle.ring.proofs.Work.{getD-written-before, length-written}
-use Rattle.values.specs.Folding.{Sizes}
-use Rattle.values.proofs.Folding.{degree-lt-count}
-use Rattle.values.proofs.Stages.{Stage, highest-loaded, stage-first, stage-turn, stage-last, stage-elements, count-most, value-cong-secret}
+use Rattle.values.specs.Folding.{flat, Placed}
+use Rattle.values.proofs.Horner.{degree-lt-count}
+use Rattle.values.proofs.Rows.{placed-load, sizes-kept, most, in-octets, ValueAt, value-first, value-next, value-last, value-ring}
 use Rattle.values.proofs.evaluate.Statement.{statement}
 use Rattle.values.proofs.evaluate.Tie as tie
 
 abbrev Inv-loop : tie.InvT-loop
-Inv-loop octets d n qlen q work₀ k₀ from₀ work k from = Stage n q qlen d octets work₀ k from work
+Inv-loop octets d n qlen q work₀ t₀ work t = ValueAt n q qlen d octets work₀ t work
 
 abbrev μ-loop : tie.MeasureT-loop
-μ-loop octets d n qlen q work₀ k₀ from₀ work k from = k
+μ-loop octets d n qlen q work₀ t₀ work t = d + 1 - t
 
-most : (d : ℕ) → d ≤ 4 → monomialCount d ≤ 15
-most d l = unfold monomialCount in count-most d 4 l
+mul-load : tie.Need-mul-load Inv-loop μ-loop
+mul-load c = omega arith
 
--- so many elements lie in the octets
-in-octets : (n qlen d m : ℕ) → m ≤ monomialCount d → m * n * qlen ≤ monomialCount d * n * qlen
-in-octets n qlen d m l = mul-le-mul-right qlen (mul-le-mul-right n l)
-
-load-highest-requires : tie.Need-load-highest-requires Inv-loop μ-loop
-load-highest-requires c κs =
+load-requires : tie.Need-load-requires Inv-loop μ-loop
+load-requires c κs =
     let a = c .before .before .before .args in
     let p = c .before .before .before .pre in
-    (p .0 .0, p .0 .2, omega (arith, in-octets (a .n) (a .qlen) (a .d) (a .d + 1) (omega (arith, degree-lt-count (a .d))), p .0 .3))
+    let inside : a .d < monomialCount (a .d) = degree-lt-count (a .d) in (
+      p .0 .0,
+      omega (arith, most (a .d) (p .0 .2)),
+      omega (arith, in-octets (a .n) (a .qlen) (a .d) (monomialCount (a .d)) inside, p .0 .3),
+      omega (arith, p .0 .0 .room),
+    )
 
-add-from : tie.Need-add-from Inv-loop μ-loop
-add-from c = omega (arith, c .before .before .before .before .before .before .pre .0 .2)
+abbrev loadedWork : tie.After-load Inv-loop μ-loop → List ℕ
+loadedWork c = c .load .last .1 .1 .1 .1 .0
 
-abbrev loaded : tie.After-load-highest Inv-loop μ-loop → List ℕ
-loaded c = c .load-highest .last .1 .1 .1 .1 .0
-
--- loading leaves the secret and the length
-as-long : (c : tie.After-load-highest Inv-loop μ-loop) → length (loaded c) ≡ length (c .before .before .before .before .args .work .now)
-as-long c = c .load-highest .kept .1 .1 .1 .1 .0
-
-secret : (c : tie.After-load-highest Inv-loop μ-loop) → (i : ℕ) → i < 2 * c .before .before .before .before .args .n
-    → getD (loaded c) i 0 ≡ getD (c .before .before .before .before .args .work .now) i 0
-secret c i l =
+loaded : (c : tie.After-load Inv-loop μ-loop) →
     let a = c .before .before .before .before .args in
-    ap (λ (w : List ℕ). getD w i 0) (c .load-highest .ensures)
-    ∙ getD-written-before (2 * a .n) _ (a .work .now) (omega (arith, c .before .before .before .before .pre .0 .0 .room)) l
+    Placed (a .n) (2 * a .n) (flat (a .n) (a .qlen) (a .octets .now) (a .d)) (a .work .now) (loadedWork c)
+loaded c =
+    let a = c .before .before .before .before .args in
+    placed-load (a .n) (2 * a .n) _ (a .work .now) _ (omega (arith, c .before .before .before .before .pre .0 .0 .room)) (c .load .ensures)
+
+-- as long as the work words that were lent
+loaded-room : (c : tie.After-load Inv-loop μ-loop) → length (loadedWork c) ≡ 8 * c .before .before .before .before .args .n
+loaded-room c = c .load .kept .1 .1 .1 .1 .0 ∙ c .before .before .before .before .pre .0 .0 .room
+
+-- both elements of the secret are small after loading
+small : (c : tie.After-load Inv-loop μ-loop) (at : ℕ) → at + c .before .before .before .before .args .n ≤ 2 * c .before .before .before .before .args .n → InRing 16 (c .before .before .before .before .args .n) (part (c .before .before .before .before .args .work .now) at)
+    → InRing 16 (c .before .before .before .before .args .n) (part (loadedWork c) at)
+small c at room h k l = rw (loaded c .kept (at + k) (omega arith) (inl (omega arith))) (h k l)
 
 loop-holds : tie.Need-loop-holds Inv-loop μ-loop
 loop-holds c =
     let a = c .before .before .before .before .before .before .args in
     let p = c .before .before .before .before .before .before .pre in
-    let w : List ℕ = loaded (c .before .before) in
-    stage-first (a .n) (a .q) (a .qlen) (a .d) (a .octets .now) w (p .1 .0)
-    (highest-loaded (a .n) (a .q) (a .qlen) (a .d) (a .octets .now) w (a .work .now) (p .0 .0 .room) (p .0 .2) (c .before .before .load-highest .ensures))
+    value-first (a .n) (a .q) (a .qlen) (a .d) (a .octets .now) (p .0 .4) (p .1 .0) (a .work .now) _ (loaded (c .before .before))
 
-fold-degree-requires : tie.Need-fold-degree-requires Inv-loop μ-loop
-fold-degree-requires c κs =
+row-requires : tie.Need-row-requires Inv-loop μ-loop
+row-requires c κs =
     let a = c .before .before .before .before .before .before .before .before .before .args in
     let p = c .before .before .before .before .before .before .before .before .before .pre in
-    let l = c .before .before .before .before .before in
-    let s = c .before .before .loop .inv in
-    let k : ℕ = c .before .before .loop .k in
-    let from : ℕ = c .before .before .loop .from in
-    let w : List ℕ = c .before .before .loop .work in
-    let within : from + k ≤ monomialCount (a .d) = stage-elements (a .n) (a .q) (a .qlen) (a .d) (a .octets .now) (loaded l) (p .1 .0) k from w s (c .before .loop-test .taken) in
-    let same : (i : ℕ) → i < 2 * a .n → getD w i 0 ≡ getD (a .work .now) i 0 = λ i h. s .secret i h ∙ secret l i h in (
+    let v = c .before .before .loop .inv in
+    let l = c .before .before .before .before .before in (
       (
-        record { places = p .0 .0 .places; most = p .0 .0 .most; octets-least = p .0 .0 .octets-least; octets-most = p .0 .0 .octets-most; room = s .as-long ∙ as-long l ∙ p .0 .0 .room },
+        sizes-kept (p .0 .0) (v .as-long ∙ l .load .kept .1 .1 .1 .1 .0),
+        p .0 .2,
         c .before .loop-test .taken,
-        omega (arith, s .degree, p .0 .2),
-        omega (arith, most (a .d) (p .0 .2)),
-        omega (arith, in-octets (a .n) (a .qlen) (a .d) (from + k) within, p .0 .3),
+        p .0 .3,
         p .0 .4,
         p .0 .5,
       ),
       (
-        s .ring,
-        ((λ m h. rw (same (0 + m) (omega arith)) (p .1 .1 .0 m h)), (λ m h. rw (same (a .n + m) (omega arith)) (p .1 .1 .1 m h))),
+        p .1 .0,
+        (λ k s. rw (v .secret (0 + k) (omega arith)) (small l 0 (omega arith) (p .1 .1 .0) k s)),
       ),
     )
 
-add-from-2 : tie.Need-add-from-2 Inv-loop μ-loop
-add-from-2 c =
-    let a = c .before .before .before .before .before .before .before .before .before .before .before .before .args in
-    let p = c .before .before .before .before .before .before .before .before .before .before .before .before .pre in
-    let s = c .before .before .before .before .before .loop .inv in
-    omega (arith, stage-elements (a .n) (a .q) (a .qlen) (a .d) (a .octets .now) _ (p .1 .0) _ _ _ s (c .before .before .before .before .loop-test .taken), most (a .d) (p .0 .2))
+mul-multiply-add-small : tie.Need-mul-multiply-add-small Inv-loop μ-loop
+mul-multiply-add-small c = omega (arith, c .before .before .before .before .before .before .before .before .before .before .before .before .before .pre .0 .0 .most)
 
-sub-k : tie.Need-sub-k Inv-loop μ-loop
-sub-k c = c .before .before .before .before .loop-test .taken
+mul-multiply-add-small-2 : tie.Need-mul-multiply-add-small-2 Inv-loop μ-loop
+mul-multiply-add-small-2 c = omega (arith, c .before .before .before .before .before .before .before .before .before .before .before .before .before .pre .0 .0 .most)
+
+abbrev rowWork : tie.After-row Inv-loop μ-loop → List ℕ
+rowWork c = c .row .last .1 .1 .1 .1 .1 .1 .0
+
+row-room : (c : tie.After-row Inv-loop μ-loop) → length (rowWork c) ≡ 8 * c .before .before .before .before .before .before .before .before .before .before .args .n
+row-room c = c .row .kept .1 .1 .1 .1 .1 .1 .0 ∙ c .before .before .before .loop .inv .as-long ∙ loaded-room (c .before .before .before .before .before .before)
+
+multiply-add-small-requires : tie.Need-multiply-add-small-requires Inv-loop μ-loop
+multiply-add-small-requires c κs =
+    let a = c .before .before .before .before .before .before .before .before .before .before .before .before .before .args in
+    let p = c .before .before .before .before .before .before .before .before .before .before .before .before .before .pre in
+    let r = c .before .before .before in
+    let v = c .before .before .before .before .before .before .loop .inv in
+    let room : length (rowWork r) ≡ 8 * a .n = row-room r in (
+      (omega arith, omega arith, omega arith, p .0 .0 .most, p .0 .4, p .0 .5),
+      (
+        (λ k s. rw (r .row .ensures .kept (2 * a .n + k) (omega arith) (inl (omega arith))) (value-ring (a .n) (a .q) (a .qlen) (a .d) (a .octets .now) (p .0 .4) (p .1 .0) v k s)),
+        (λ k s.
+            rw (r .row .ensures .kept (a .n + k) (omega arith) (inl (omega arith)), v .secret (a .n + k) (omega arith))
+            (small (c .before .before .before .before .before .before .before .before .before) (a .n) (omega arith) (p .1 .1 .1) k s)),
+      ),
+    )
+
+mul-copy : tie.Need-mul-copy Inv-loop μ-loop
+mul-copy c = omega (arith, c .before .before .before .before .before .before .before .before .before .before .before .before .before .before .before .before .before .pre .0 .0 .most)
+
+mul-copy-2 : tie.Need-mul-copy-2 Inv-loop μ-loop
+mul-copy-2 c = omega (arith, c .before .before .before .before .before .before .before .before .before .before .before .before .before .before .before .before .before .pre .0 .0 .most)
+
+copy-requires : tie.Need-copy-requires Inv-loop μ-loop
+copy-requires c κs =
+    let a = c .before .before .before .before .before .before .before .before .before .before .before .before .before .before .before .before .before .args in
+    let room : length (c .before .before .before .multiply-add-small .last .0) ≡ 8 * a .n = c .before .before .before .multiply-add-small .kept .0 ∙ row-room (c .before .before .before .before .before .before .before) in
+    (omega arith, omega arith, inl (omega arith))
+
+add-t : tie.Need-add-t Inv-loop μ-loop
+add-t c = omega (arith, c .before .before .before .before .before .before .before .before .before .before .before .before .loop-test .taken, c .before .before .before .before .before .before .before .before .before .before .before .before .before .before .before .before .before .before .before .before .pre .0 .2)
 
 loop-less : tie.Need-loop-less Inv-loop μ-loop
-loop-less c = omega (arith, c .before .before .before .before .loop-test .taken)
+loop-less c = omega (arith, c .before .before .before .before .before .before .before .before .before .before .before .before .loop-test .taken)
 
 loop-again : tie.Need-loop-again Inv-loop μ-loop
 loop-again c =
-    let a = c .before .before .before .before .before .before .before .before .before .before .before .before .args in
-    let p = c .before .before .before .before .before .before .before .before .before .before .before .before .pre in
-    let l = c .before .before .before .before .before .loop in
-    stage-turn (a .n) (a .q) (a .qlen) (a .d) (a .octets .now) _ (p .1 .0) (l .k) (l .from) (l .work) _ (p .0 .4)
-    (c .before .before .before .before .loop-test .taken) (l .inv) (c .before .before .fold-degree .ensures) (c .before .before .fold-degree .kept .1 .1 .1 .1 .1 .1 .0)
+    let a = c .before .before .before .before .before .before .before .before .before .before .before .before .before .before .before .before .before .before .before .before .args in
+    let p = c .before .before .before .before .before .before .before .before .before .before .before .before .before .before .before .before .before .before .before .before .pre in
+    value-next (a .n) (a .q) (a .qlen) (a .d) (a .octets .now) (p .0 .4) (p .1 .0) _ _ _ (c .before .before .before .before .before .before .before .before .before .before .before .before .loop-test .taken) (loaded-room (c .before .before .before .before .before .before .before .before .before .before .before .before .before .before .before .before))
+    (c .before .before .before .before .before .before .before .before .before .before .before .before .before .loop .inv) (c .before .before .before .before .before .before .before .before .before .before .row .ensures) (c .before .before .before .before .before .before .before .before .before .before .row .kept .1 .1 .1 .1 .1 .1 .0)
+    (c .before .before .before .before .before .before .multiply-add-small .ensures) (c .before .before .before .before .before .before .multiply-add-small .kept .0) (c .before .before .copy .ensures) (c .before .before .copy .kept .0)
 
 same-length : tie.Need-same-length Inv-loop μ-loop
-same-length c = c .before .loop .inv .as-long ∙ as-long (c .before .before .before .before)
+same-length c = c .before .loop .inv .as-long ∙ c .before .before .before .before .load .kept .1 .1 .1 .1 .0
 
 returns : tie.Need-returns Inv-loop μ-loop
-returns c k l =
+returns c =
     let a = c .before .before .before .before .before .before .before .before .args in
     let p = c .before .before .before .before .before .before .before .before .pre in
-    let h = c .before .before .before .before in
-    let none : c .before .loop .k ≡ 0 = omega (arith, c .loop-test .left) in
-    let s : Stage (a .n) (a .q) (a .qlen) (a .d) (a .octets .now) (loaded h) 0 (c .before .loop .from) (c .before .loop .work) =
-    subst (λ (x : ℕ). Stage (a .n) (a .q) (a .qlen) (a .d) (a .octets .now) (loaded h) x (c .before .loop .from) (c .before .loop .work)) none (c .before .loop .inv) in
-    stage-last (a .n) (a .q) (a .qlen) (a .d) (a .octets .now) (loaded h) (p .1 .0) (c .before .loop .from) (c .before .loop .work) s k l
-    ∙ ap (λ (v : ℕ). v % a .q) (value-cong-secret (a .n) (a .d) _ (λ i u. secret h (0 + i) (omega arith)) (λ i u. secret h (a .n + i) (omega arith)) k)
+    value-last (a .n) (a .q) (a .qlen) (a .d) (a .octets .now) (p .0 .4) (p .1 .0) (a .work .now) _ (omega (arith, c .loop-test .left)) (c .before .loop .inv) (loaded (c .before .before .before .before))
 
 pub evaluate-spec : {M : Type 1} → statement M
 evaluate-spec =
     tie.close
-    (tie.spec Inv-loop μ-loop load-highest-requires add-from loop-holds fold-degree-requires add-from-2 sub-k loop-less loop-again same-length returns)
+    (tie.spec
+    Inv-loop
+    μ-loop
+    mul-load
+    load-requires
+    loop-holds
+    row-requires
+    mul-multiply-add-small
+    mul-multiply-add-small-2
+    multiply-add-small-requires
+    mul-copy
+    mul-copy-2
+    copy-requires
+    add-t
+    loop-less
+    loop-again
+    same-length
+    returns)

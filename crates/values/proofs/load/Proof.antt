@@ -17,7 +17,7 @@ use Rattle.values.proofs.load.Tie as tie
 
 mul-from : tie.Need-mul-from
 mul-from c =
-    let few : c .before .before .args .element ≤ 15 = omega arith in
+    let few : c .before .before .args .element ≤ 45 = omega arith in
     let most : c .before .before .args .n ≤ 4096 = omega arith in
     omega (arith, mul-le-mul few most)
 
