@@ -18,7 +18,7 @@ use Rattle.definitions.specs.Ring.{modulo}
 use Rattle.definitions.specs.Monomials.{polynomialOf, value}
 use Rattle.definitions.specs.Octets.{paddingClear}
 use Rattle.definitions.specs.Draws.{secretDrawn}
-use Rattle.definitions.specs.Calls.{KeyPair, Encrypted, smallOf, secretX, secretY, polynomialFrom, octetsFrom, secretPadded, elementsFit, lengthTests, keyDraws, keyPairOf, keygenAnswer, isZeroAt, isZeroAnswer, maskDraws, noiseOf, encryptedWith, maskLength, encryptAnswer, sumModulo, addAnswer}
+use Rattle.definitions.specs.Calls.{KeyPair, Encrypted, smallOf, secretX, secretY, polynomialFrom, octetsFrom, secretBitsClear, elementsFit, lengthTests, keyDraws, keyPairOf, keygenAnswer, isZeroAt, isZeroAnswer, maskDraws, noiseOf, encryptedWith, maskLength, encryptAnswer, sumModulo, addAnswer}
 use Rattle.definitions.specs.Demand3.{AcceptedSet, ZeroOf}
 use Rattle.definitions.proofs.Sums.{every-true, every-at}
 use Rattle.definitions.proofs.Tests.{both-true, neither-true}
@@ -49,7 +49,7 @@ pub record Zero (p : Parameters) (public secret : List ℕ) : Type 0 where
   pub set : AcceptedSet p
   pub secret-exact : length secret ≡ secretLength p
   pub public-exact : length public ≡ publicLength p
-  pub padded : secretPadded p secret ≡ true
+  pub padded : secretBitsClear p secret ≡ true
   pub fits : elementsFit p (monomialCount (p .dx)) public ≡ true
   pub vanishes :
       (k : ℕ) → k < p .n →

@@ -22,11 +22,11 @@ monomialAt-tail d (suc e) i =
 abbrev pub placeOf : ℕ → ℕ → ℕ → ℕ
 placeOf d i j = monomialCount d - monomialCount (i + j) + j
 
-count-le : (k d : ℕ) → k ≤ d → monomialCount k ≤ monomialCount d
-count-le k d l = let e : k + (d - k) ≡ d = omega arith in rw e at (monomialCount-mono k (d - k))
+pub monomialCount-mono-le : (k d : ℕ) → k ≤ d → monomialCount k ≤ monomialCount d
+monomialCount-mono-le k d l = let e : k + (d - k) ≡ d = omega arith in rw e at (monomialCount-mono k (d - k))
 
 pub placeOf-suc : (d i j : ℕ) → i + j ≤ d → placeOf (suc d) i j ≡ d + 2 + placeOf d i j
-placeOf-suc d i j l = omega (arith, monomialCount-suc d, count-le (i + j) d l)
+placeOf-suc d i j l = omega (arith, monomialCount-suc d, monomialCount-mono-le (i + j) d l)
 
 placeOf-top : (d i j : ℕ) → i + j ≡ d → placeOf d i j ≡ j
 placeOf-top d i j e = rw (e, sub-self (monomialCount d)) (zero-add j)

@@ -14,7 +14,7 @@ use lib.Seq.{take-at, drop-at}
 use Rattle.definitions.specs.Parameters.{Parameters, smallBits, smallLength, secretLength}
 use Rattle.definitions.specs.Ring.{elementOf, InRing}
 use Rattle.definitions.specs.Octets.{unpacked, packed, paddingClear}
-use Rattle.definitions.specs.Calls.{smallOf, secretX, secretY, secretPadded}
+use Rattle.definitions.specs.Calls.{smallOf, secretX, secretY, secretBitsClear}
 use Rattle.definitions.specs.Demand3.{secretOf, InSmallRing}
 use Rattle.definitions.proofs.Packing.{length-unpacked, length-packed, unpacked-below, unpacked-packed, paddingClear-packed, unpacked-tail}
 use Rattle.definitions.proofs.Parameters.{Accepted, smallBits-least, smallBits-power, smallLength-room}
@@ -66,8 +66,8 @@ module _ (p : Parameters) (a : Accepted p) where
         ∙ ap₂ _+_ (length-packed (smallBits (p .l)) (smallLength p) ux) (length-packed (smallBits (p .l)) (smallLength p) uy)
 
     module _ (hx : InSmallRing p ux) (hy : InSmallRing p uy) where
-      pub secretOf-padded : secretPadded p (secretOf p ux uy) ≡ true
-      unfolding secretPadded
+      pub secretOf-padded : secretBitsClear p (secretOf p ux uy) ≡ true
+      unfolding secretBitsClear
       secretOf-padded = rw (first, second, padded-element ux hx, padded-element uy hy)
 
       pub secretOf-x : secretX p (secretOf p ux uy) ≡ elementOf ux

@@ -7,7 +7,7 @@
 --   polynomialFrom   the polynomial over R_q in some octets
 --   octetsFrom       the octets of a polynomial
 --   decodedElements  the coefficients of so many elements from octets
---   secretPadded     whether both halves of a secret have zero in their unused bits
+--   secretBitsClear     whether both halves of a secret have zero in their unused bits
 --   elementsFit      whether each of so many elements' coefficients is below q
 --   lengthTests      the tests up to the length test
 --   keyDraws         the elements drawn for a key;  keyConstant, keyPairOf: its constant, and the octets of both keys
@@ -53,8 +53,8 @@ polynomialFrom p d octets = polynomialOf (p .n) (decodedElements p (monomialCoun
 unfoldable pub octetsFrom : Parameters → ℕ → Polynomial → List ℕ
 octetsFrom p d f = encoded (qlen (p .q)) (coefficientsOf (p .n) (monomialCount d) f)
 
-unfoldable pub secretPadded : Parameters → List ℕ → Bool
-secretPadded p secret =
+unfoldable pub secretBitsClear : Parameters → List ℕ → Bool
+secretBitsClear p secret =
     paddingClear (p .n * smallBits (p .l)) (take (smallLength p) secret)
     && paddingClear (p .n * smallBits (p .l)) (drop (smallLength p) secret)
 
@@ -106,7 +106,7 @@ isZeroAnswer p secret public workLen =
     answer
     (lengthTests p
     (eqb (length secret) (secretLength p) && (eqb (length public) (publicLength p) && eqb workLen (workLength p))))
-    (refuse 7 (not (secretPadded p secret)) ∷ refuse 8 (not (elementsFit p (monomialCount (p .dx)) public)) ∷ [])
+    (refuse 7 (not (secretBitsClear p secret)) ∷ refuse 8 (not (elementsFit p (monomialCount (p .dx)) public)) ∷ [])
     (isZeroAt p (polynomialFrom p (p .dx) public) (secretX p secret) (secretY p secret))
 
 -- ---- encryption (01: sealing)
@@ -195,7 +195,7 @@ decryptAnswer p secret ciphertext messageLen workLen =
     (eqb (length secret) (secretLength p)
     && (eqb (length ciphertext) (ciphertextLength p)
     && (eqb messageLen (messageLength p) && eqb workLen (workLength p)))))
-    (refuse 7 (not (secretPadded p secret))
+    (refuse 7 (not (secretBitsClear p secret))
     ∷ refuse 8 (not (elementsFit p (monomialCount (degree p)) ciphertext))
     ∷ refuse 10 (not (tailClear p (decryptedFrom p secret ciphertext)))
     ∷ [])
