@@ -79,6 +79,14 @@ module _ (q : ℕ) (xs ys : List ℕ) where
 -- ---- what reading tells
 
 module _ (q x : ℕ) where
+  pub reading-value : {v : ℕ} → coefficientAnswer q x ≡ accepted v → v ≡ x
+  unfolding coefficientAnswer answer firstRefusal
+  reading-value {v} e = go (ltb x q) e
+    where
+      go : (t : Bool) → answer [] (refuse 8 (not t) ∷ []) x ≡ accepted v → v ≡ x
+      go true e = cc
+      go false e = cc
+
   pub reading-below : (v : ℕ) → coefficientAnswer q x ≡ accepted v → coefficientsFit q (x ∷ []) ≡ true
   unfolding coefficientAnswer answer firstRefusal
   reading-below v e = coefficientsFit-one q x ∙ go (ltb x q) e
