@@ -6,7 +6,7 @@
 --   judged-refused    any other number: some is not
 -- Assumes nothing.
 use Prim.Native.Nat.{ℕ, _/_}
-use mathlib.Core.Path.{_≡_, refl, sym, _∙_}
+use mathlib.Core.Path.{_≡_, refl, sym, ap, _∙_}
 use mathlib.Core.Bool.{Bool, true, false}
 use mathlib.Core.List.{List, []}
 use borrow.Author.Tests.{not-false}
@@ -19,12 +19,18 @@ use Rattle.definitions.proofs.Refusals.{firstRefusal-passed, firstRefusal-last}
 use Rattle.definitions.proofs.Parameters.{Accepted, elementsLength-count}
 use Rattle.judging.specs.Reading.{coefficientNumber, fitNumber}
 
+pub number-zero : {fit : Bool} → fit ≡ true → 0 ≡ coefficientNumber fit
+number-zero e = sym (firstRefusal-last 8 _ (rw e))
+
 pub number-fits : (fit : Bool) → coefficientNumber fit ≡ 0 → fit ≡ true
 number-fits fit e = not-false _ (firstRefusal-passed 8 _ [] (lit< tt) e .0)
 
 pub number-refused : (fit : Bool) → (coefficientNumber fit ≡ 0 → ⊥) → fit ≡ false
 number-refused true h = absurd (h (firstRefusal-last 8 false refl))
 number-refused false h = refl
+
+pub number-same : (fit whole : Bool) {r : ℕ} → r ≡ coefficientNumber fit → (r ≡ 0 → ⊥) → (fit ≡ false → whole ≡ false) → r ≡ coefficientNumber whole
+number-same fit whole e z h = let f : fit ≡ false = number-refused fit (λ n. z (e ∙ n)) in e ∙ ap coefficientNumber (f ∙ sym (h f))
 
 pub fitNumber-fits : (q : ℕ) (xs : List ℕ) → fitNumber q xs ≡ 0 → coefficientsFit q xs ≡ true
 unfolding fitNumber

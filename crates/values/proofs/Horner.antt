@@ -1,25 +1,27 @@
 -- Why Horner's rule, x inside and y outside, gives the value: the list's monomials are these rows, and each step takes one power out.
 --
 --   horner-sum       the elements times the powers of u;  horner-cong: by the elements and u below n alone
---   horner-one, -next    the first element, and one more, modulo q: what the loops go by
---   starts-count     the places by counts of monomials;  place-inside: the place of a row's term is one of the list
+--   horner-stepped   one element more, modulo q: what the loops go by
+--   starts-..        the places by counts of monomials;  place-inside: a row's term is one of the list, place-term: and each of the list is one
 --   nested-value     the nested rule gives the value
+--   rows-..          what a test at every place of the rows tells of the list
 -- Assumes nothing.
 use Prim.Native.Nat.{ℕ, zero, suc, _+_, _-_, _%_, _≤_, _<_}
 use mathlib.Core.Path.{_≡_, refl, sym, ap, ap₂, _∙_}
+use mathlib.Core.Bool.{Bool, true, false}
 use native.Mathlib.Nat.{zero-add, add-comm}
 use native.Mathlib.Numerals.{add-one}
 use native.Mathlib.Omega.{arith}
-use Rattle.definitions.specs.Sequences.{sum}
+use Rattle.definitions.specs.Sequences.{sum, every, tabulate}
 use Rattle.definitions.specs.Parameters.{monomialCount}
 use Rattle.definitions.specs.Ring.{Element, conv, one, power}
-use Rattle.definitions.specs.Monomials.{Polynomial, monomialAt, evaluated, valueOver, value}
-use Rattle.definitions.proofs.Sums.{sum-cong, sum-append}
-use Rattle.definitions.proofs.Congruence.{Cong, cong-refl, cong-trans, cong-of-eq, cong-mod, cong-add}
+use Rattle.definitions.specs.Monomials.{Polynomial, monomialAt, monomials, ofDegree, evaluated, valueOver, value}
+use Rattle.definitions.proofs.Sums.{sum-cong, sum-append, every-true, every-at}
+use Rattle.definitions.proofs.Congruence.{cong-trans, cong-of-eq, cong-mod, cong-add}
 use Rattle.definitions.proofs.Ring.{conv-comm, conv-assoc, conv-sum-left, conv-cong, conv-cong-modulo, conv-zero-left, conv-one-right}
-use Rattle.definitions.proofs.Monomials.{monomialCount-suc, monomialCount-pos, monomialAt-first}
-use Rattle.definitions.proofs.Rows.{monomialAt-tail, placeOf, sum-rows}
-use Rattle.values.specs.Horner.{horner, starts, rowOf, nested}
+use Rattle.definitions.proofs.Monomials.{monomialCount-suc, monomialCount-pos, monomialAt-first, monomials-degree, monomials-apart}
+use Rattle.definitions.proofs.Rows.{monomialAt-tail, monomialCount-mono-le, placeOf, sum-rows}
+use Rattle.values.specs.Horner.{horner, stepped, starts, termPlace, rowOf, nested, rowFits}
 
 -- ---- one row
 
@@ -54,16 +56,15 @@ horner-cong n hu (suc c) hh k l = ap₂ _+_ (conv-cong n (horner-cong n hu c (λ
 
 -- ---- modulo q, step by step
 
-pub horner-one : (n : ℕ) (u : Element) (h : ℕ → Element) (k : ℕ) → horner n u h 1 k ≡ h 0 k
-unfolding horner
-horner-one n u h k = ap (λ (x : ℕ). x + h 0 k) (conv-zero-left n u (λ i l. refl) k) ∙ zero-add (h 0 k)
-
-pub horner-next : (n q : ℕ) (u a x : Element) (h : ℕ → Element) (c : ℕ)
-    → ((i : ℕ) → i < n → a i ≡ horner n u h c i % q) → ((i : ℕ) → i < n → Cong q (x i) (h c i))
-    → (k : ℕ) → k < n → (conv n a u k + x k) % q ≡ horner n u h (suc c) k % q
-unfolding horner
-horner-next n q u a x h c ha hx k l =
-    cong-add (conv-cong-modulo n {b = horner n u h c} (λ i s. cong-trans (cong-of-eq (ha i s)) (cong-mod q (horner n u h c i))) (λ i s. cong-refl) k) (hx k l) .same
+pub horner-stepped : (n q : ℕ) (u : Element) (h : ℕ → Element) (c : ℕ) {a v x : Element} → (0 < c → (i : ℕ) → i < n → a i ≡ horner n u h c i % q)
+    → ((i : ℕ) → i < n → v i ≡ u i) → ((i : ℕ) → i < n → x i ≡ h c i % q) → (k : ℕ) → k < n → stepped n q c a v x k ≡ horner n u h (suc c) k % q
+unfolding stepped horner
+horner-stepped n q u h zero ha hv hx k l =
+    hx k l ∙ ap (λ (y : ℕ). y % q) (sym (ap (λ (y : ℕ). y + h 0 k) (conv-zero-left n u (λ i s. refl) k) ∙ zero-add (h 0 k)))
+horner-stepped n q u h (suc c) ha hv hx k l =
+    cong-add
+    (conv-cong-modulo n {b = horner n u h (suc c)} (λ i s. cong-trans (cong-of-eq (ha (omega arith) i s)) (cong-mod q (horner n u h (suc c) i))) (λ i s. cong-of-eq (hv i s)) k)
+    (cong-trans (cong-of-eq (hx k l)) (cong-mod q (h (suc c) k))) .same
 
 -- ---- the places of a row's terms
 
@@ -74,10 +75,6 @@ starts-suc d s = rw (add-one s)
 pub starts-zero : (d : ℕ) → starts d 0 ≡ 0
 unfolding starts sum
 starts-zero d = refl
-
-pub starts-one : (d : ℕ) → starts d 1 ≡ d + 1
-unfolding starts sum
-starts-one d = omega arith
 
 pub starts-count : (d s : ℕ) → s ≤ d → starts d s + monomialCount (d - s) ≡ monomialCount d
 starts-count d zero l = let e : d - 0 ≡ d = omega arith in rw (starts-zero d, e) (zero-add (monomialCount d))
@@ -91,18 +88,18 @@ pub degree-lt-count : (d : ℕ) → d < monomialCount d
 degree-lt-count zero = monomialCount-pos zero
 degree-lt-count (suc d) = omega (arith, monomialCount-suc d, monomialCount-pos d)
 
-pub place-inside : (d s t : ℕ) → s ≤ t → t ≤ d → starts d s + (d - t) < monomialCount d
+pub place-inside : (d s t : ℕ) → s ≤ t → t ≤ d → termPlace d t s < monomialCount d
 place-inside d s t l m = omega (arith, starts-count d s (omega arith), degree-lt-count (d - s))
 
 -- the place of x^i y^j, in the row of y^j
-place-row : (d i j : ℕ) → i + j ≤ d → starts d (d - j - i) + (d - (d - j)) ≡ placeOf d i j
+place-row : (d i j : ℕ) → i + j ≤ d → termPlace d (d - j) (d - j - i) ≡ placeOf d i j
 place-row d i j l =
     let e : d - (d - j - i) ≡ i + j = omega arith in
     let count : starts d (d - j - i) + monomialCount (i + j) ≡ monomialCount d = rw e at (starts-count d (d - j - i) (omega arith)) in
     omega arith
 
 top-at : (d j : ℕ) → j ≤ d → monomialAt d j ≡ record { x = d - j; y = j }
-top-at zero zero l = unfold monomialAt Rattle.definitions.specs.Monomials.monomials Rattle.definitions.specs.Monomials.ofDegree Rattle.definitions.specs.Sequences.tabulate in refl
+top-at zero zero l = unfold monomialAt monomials ofDegree tabulate in refl
 top-at zero (suc j) l = absurd (omega arith)
 top-at (suc d) j l = monomialAt-first d j (omega arith)
 
@@ -111,6 +108,30 @@ monomial-place d i j l =
     let e : i + j + (d - (i + j)) ≡ d = omega arith in
     let back : i + j - j ≡ i = omega arith in
     rw e at (monomialAt-tail (i + j) (d - (i + j)) j) ∙ top-at (i + j) j (omega arith) ∙ ap (λ (x : ℕ). record { x = x; y = j }) back
+
+-- each place of the list is one of a row
+place-term : (d i : ℕ) → i < monomialCount d → termPlace d (d - monomialAt d i .y) (d - monomialAt d i .y - monomialAt d i .x) ≡ i
+place-term d i l =
+    let x : ℕ = monomialAt d i .x in
+    let y : ℕ = monomialAt d i .y in
+    let low : x + y ≤ d = monomials-degree d i in
+    let inside : placeOf d x y < monomialCount d = omega (arith, monomialCount-mono-le (x + y) d low, degree-lt-count (x + y)) in
+    place-row d x y low ∙ sym (monomials-apart d l inside (sym (monomial-place d x y low)))
+
+module _ (d : ℕ) (fits : ℕ → Bool) where
+  pub rows-all : every (suc d) (rowFits d fits) ≡ true → every (monomialCount d) fits ≡ true
+  rows-all e =
+      every-true (monomialCount d) (λ i l.
+      let y : ℕ = monomialAt d i .y in
+      let row : rowFits d fits (d - y) ≡ true = every-at (suc d) (rowFits d fits) e (omega arith) in
+      rw (place-term d i l) at (every-at (suc (d - y)) (λ s. fits (termPlace d (d - y) s)) row {k = d - y - monomialAt d i .x} (omega arith)))
+
+  pub rows-not : (t : ℕ) → t ≤ d → rowFits d fits t ≡ false → every (monomialCount d) fits ≡ false
+  rows-not t l e = go (every (monomialCount d) fits) refl
+    where
+      go : (b : Bool) → every (monomialCount d) fits ≡ b → every (monomialCount d) fits ≡ false
+      go false h = h
+      go true h = let z : rowFits d fits t ≡ true = every-true (suc t) (λ s m. every-at (monomialCount d) fits h (place-inside d s t (omega arith) l)) in cc
 
 -- ---- the value
 

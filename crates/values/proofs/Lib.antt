@@ -1,5 +1,3 @@
-pub mod Parts
-pub mod Turns
-pub mod Stages
+-- Why Horner's rule gives the value, and what its loops keep.
 pub mod Horner
-pub mod Rows
+pub mod Loops

@@ -1,147 +1,110 @@
 -- `evaluate` takes a row a turn, one power of y lower each time.
 -- Assumes nothing.
-use Prim.Native.Nat.{ℕ, _+_, _-_, _*_, _≤_, _<_}
+use Prim.Native.Nat.{ℕ, suc, _+_, _-_, _*_, _%_, _≤_, _<_}
 use native.Mathlib.Omega.{arith}
-use mathlib.Core.Path.{_≡_, _∙_}
-use mathlib.Core.List.{List}
-use mathlib.Core.Logic.{inl}
-use lib.ListN.{length}
+use mathlib.Core.Path.{_≡_, sym, ap, _∙_}
+use borrow.Author.Needs.{needs}
 use Rattle.definitions.specs.Parameters.{monomialCount}
 use Rattle.definitions.specs.Ring.{InRing}
+use Rattle.definitions.specs.Octets.{decoded, coefficientsFit}
 use Rattle.ring.specs.Work.{part}
-use Rattle.values.specs.Folding.{flat, Placed}
-use Rattle.values.proofs.Horner.{degree-lt-count}
-use Rattle.values.proofs.Rows.{placed-load, sizes-kept, most, in-octets, ValueAt, value-first, value-next, value-last, value-ring}
+use Rattle.decoding.specs.Elements.{flat}
+use Rattle.judging.specs.Reading.{fitNumber}
+use Rattle.judging.proofs.Judged.{number-zero, number-fits, number-same}
+use Rattle.values.specs.Horner.{rowOf, nested, fitsAt, rowFits, Placed}
+use Rattle.values.proofs.Horner.{nested-value, rows-all, rows-not}
+use Rattle.values.proofs.Loops.{sizes-kept, row-cong, decoded-fits, HornerAt, hornerAt-none, hornerAt-ready, hornerAt-next, hornerAt-all}
 use Rattle.values.proofs.evaluate.Statement.{statement}
 use Rattle.values.proofs.evaluate.Tie as tie
 
 abbrev Inv-loop : tie.InvT-loop
-Inv-loop octets d n qlen q work₀ t₀ work t = ValueAt n q qlen d octets work₀ t work
+Inv-loop octets d n qlen q work₀ t₀ work t =
+    (t ≤ d + 1) × HornerAt n q (2 * n) n (rowOf n d (flat n qlen octets) (part work₀ 0)) (rowFits d (fitsAt q n qlen octets)) work₀ t work
 
 abbrev μ-loop : tie.MeasureT-loop
 μ-loop octets d n qlen q work₀ t₀ work t = d + 1 - t
 
-mul-load : tie.Need-mul-load Inv-loop μ-loop
-mul-load c = omega arith
+-- ---- places
 
-load-requires : tie.Need-load-requires Inv-loop μ-loop
-load-requires c κs =
-    let a = c .before .before .before .args in
-    let p = c .before .before .before .pre in
-    let inside : a .d < monomialCount (a .d) = degree-lt-count (a .d) in (
-      p .0 .0,
-      omega (arith, most (a .d) (p .0 .2)),
-      omega (arith, in-octets (a .n) (a .qlen) (a .d) (monomialCount (a .d)) inside, p .0 .3),
-      omega (arith, p .0 .0 .room),
-    )
+abbrev start : tie.In-loop Inv-loop μ-loop → tie.Start Inv-loop μ-loop
+start c = c .before .before .before .before
 
-abbrev loadedWork : tie.After-load Inv-loop μ-loop → List ℕ
-loadedWork c = c .load .last .1 .1 .1 .1 .0
+abbrev turn : tie.Else1 Inv-loop μ-loop → tie.In-loop Inv-loop μ-loop
+turn c = c .before .before .before .before .before
 
-loaded : (c : tie.After-load Inv-loop μ-loop) →
-    let a = c .before .before .before .before .args in
-    Placed (a .n) (2 * a .n) (flat (a .n) (a .qlen) (a .octets .now) (a .d)) (a .work .now) (loadedWork c)
-loaded c =
-    let a = c .before .before .before .before .args in
-    placed-load (a .n) (2 * a .n) _ (a .work .now) _ (omega (arith, c .before .before .before .before .pre .0 .0 .room)) (c .load .ensures)
+abbrev passed : tie.After-slice-known3 Inv-loop μ-loop → tie.Else1 Inv-loop μ-loop
+passed c = c .before .before .before .before
 
--- as long as the work words that were lent
-loaded-room : (c : tie.After-load Inv-loop μ-loop) → length (loadedWork c) ≡ 8 * c .before .before .before .before .args .n
-loaded-room c = c .load .kept .1 .1 .1 .1 .0 ∙ c .before .before .before .before .pre .0 .0 .room
-
--- both elements of the secret are small after loading
-small : (c : tie.After-load Inv-loop μ-loop) (at : ℕ) → at + c .before .before .before .before .args .n ≤ 2 * c .before .before .before .before .args .n → InRing 16 (c .before .before .before .before .args .n) (part (c .before .before .before .before .args .work .now) at)
-    → InRing 16 (c .before .before .before .before .args .n) (part (loadedWork c) at)
-small c at room h k l = rw (loaded c .kept (at + k) (omega arith) (inl (omega arith))) (h k l)
+-- ---- needs
 
 loop-holds : tie.Need-loop-holds Inv-loop μ-loop
-loop-holds c =
-    let a = c .before .before .before .before .before .before .args in
-    let p = c .before .before .before .before .before .before .pre in
-    value-first (a .n) (a .q) (a .qlen) (a .d) (a .octets .now) (p .0 .4) (p .1 .0) (a .work .now) _ (loaded (c .before .before))
+loop-holds c = (omega arith, hornerAt-none)
+
+-- u_x is as it was
+same-x : (c : tie.In-loop Inv-loop μ-loop) (k : ℕ) → k < start c .args .n → part (c .before .loop .work) 0 k ≡ part (start c .args .work .now) 0 k
+same-x c k l = c .before .loop .inv .1 .before (0 + k) (omega arith)
 
 row-requires : tie.Need-row-requires Inv-loop μ-loop
 row-requires c κs =
-    let a = c .before .before .before .before .before .before .before .before .before .args in
-    let p = c .before .before .before .before .before .before .before .before .before .pre in
-    let v = c .before .before .loop .inv in
-    let l = c .before .before .before .before .before in (
-      (
-        sizes-kept (p .0 .0) (v .as-long ∙ l .load .kept .1 .1 .1 .1 .0),
-        p .0 .2,
-        c .before .loop-test .taken,
-        p .0 .3,
-        p .0 .4,
-        p .0 .5,
-      ),
-      (
-        p .1 .0,
-        (λ k s. rw (v .secret (0 + k) (omega arith)) (small l 0 (omega arith) (p .1 .1 .0) k s)),
-      ),
+    let p = start (c .before) .pre in (
+      (sizes-kept (p .0 .0) (c .before .before .loop .inv .1 .as-long), p .0 .1, c .before .loop-test .taken, p .0 .2, p .0 .3, p .0 .4),
+      λ k l. rw (same-x (c .before) k l) (p .1 .0 k l),
     )
 
-mul-multiply-add-small : tie.Need-mul-multiply-add-small Inv-loop μ-loop
-mul-multiply-add-small c = omega (arith, c .before .before .before .before .before .before .before .before .before .before .before .before .before .pre .0 .0 .most)
-
-mul-multiply-add-small-2 : tie.Need-mul-multiply-add-small-2 Inv-loop μ-loop
-mul-multiply-add-small-2 c = omega (arith, c .before .before .before .before .before .before .before .before .before .before .before .before .before .pre .0 .0 .most)
-
-abbrev rowWork : tie.After-row Inv-loop μ-loop → List ℕ
-rowWork c = c .row .last .1 .1 .1 .1 .1 .1 .0
-
-row-room : (c : tie.After-row Inv-loop μ-loop) → length (rowWork c) ≡ 8 * c .before .before .before .before .before .before .before .before .before .before .args .n
-row-room c = c .row .kept .1 .1 .1 .1 .1 .1 .0 ∙ c .before .before .before .loop .inv .as-long ∙ loaded-room (c .before .before .before .before .before .before)
-
-multiply-add-small-requires : tie.Need-multiply-add-small-requires Inv-loop μ-loop
-multiply-add-small-requires c κs =
-    let a = c .before .before .before .before .before .before .before .before .before .before .before .before .before .args in
-    let p = c .before .before .before .before .before .before .before .before .before .before .before .before .before .pre in
-    let r = c .before .before .before in
-    let v = c .before .before .before .before .before .before .loop .inv in
-    let room : length (rowWork r) ≡ 8 * a .n = row-room r in (
-      (omega arith, omega arith, omega arith, p .0 .0 .most, p .0 .4, p .0 .5),
-      (
-        (λ k s. rw (r .row .ensures .kept (2 * a .n + k) (omega arith) (inl (omega arith))) (value-ring (a .n) (a .q) (a .qlen) (a .d) (a .octets .now) (p .0 .4) (p .1 .0) v k s)),
-        (λ k s.
-            rw (r .row .ensures .kept (a .n + k) (omega arith) (inl (omega arith)), v .secret (a .n + k) (omega arith))
-            (small (c .before .before .before .before .before .before .before .before .before) (a .n) (omega arith) (p .1 .1 .1) k s)),
-      ),
+returns : tie.Need-returns Inv-loop μ-loop
+unfolding fitNumber
+returns c =
+    let l : tie.In-loop Inv-loop μ-loop = c .before .before .before .before .before in
+    let a = start l .args in
+    let fits = fitsAt (a .q) (a .n) (a .qlen) (a .octets .now) in (
+      number-same (rowFits (a .d) fits (l .before .loop .t)) (coefficientsFit (a .q) (decoded (a .qlen) (monomialCount (a .d) * a .n) (a .octets .now)))
+          (c .before .before .before .row .ensures .0) (c .if1 .taken)
+          (λ f. decoded-fits (a .q) (a .n) (a .qlen) (a .octets .now) (monomialCount (a .d)) ∙ rows-not (a .d) fits (l .before .loop .t) (l .loop-test .taken) f),
+      λ z. absurd (c .if1 .taken z),
     )
 
-mul-copy : tie.Need-mul-copy Inv-loop μ-loop
-mul-copy c = omega (arith, c .before .before .before .before .before .before .before .before .before .before .before .before .before .before .before .before .before .pre .0 .0 .most)
+-- the row is taken
+taken : (c : tie.Else1 Inv-loop μ-loop) → let a = start (turn c) .args in
+    let l = turn c .before .loop in
+    Placed (a .n) (3 * a .n) (λ k. rowOf (a .n) (a .d) (flat (a .n) (a .qlen) (a .octets .now)) (part (l .work) 0) (l .t) k % a .q) (l .work) (c .before .before .before .row .last .1 .1 .1 .1 .1 .1 .0)
+taken c = c .before .before .before .row .ensures .1 (c .if1 .left)
 
-mul-copy-2 : tie.Need-mul-copy-2 Inv-loop μ-loop
-mul-copy-2 c = omega (arith, c .before .before .before .before .before .before .before .before .before .before .before .before .before .before .before .before .before .pre .0 .0 .most)
-
-copy-requires : tie.Need-copy-requires Inv-loop μ-loop
-copy-requires c κs =
-    let a = c .before .before .before .before .before .before .before .before .before .before .before .before .before .before .before .before .before .args in
-    let room : length (c .before .before .before .multiply-add-small .last .0) ≡ 8 * a .n = c .before .before .before .multiply-add-small .kept .0 ∙ row-room (c .before .before .before .before .before .before .before) in
-    (omega arith, omega arith, inl (omega arith))
+step-requires : tie.Need-step-requires Inv-loop μ-loop
+step-requires c κs =
+    let p = start (turn (c .before)) .pre in
+    let l = turn (c .before) .before .loop .inv .1 in
+    let long = taken (c .before) .as-long ∙ l .as-long ∙ p .0 .0 .room in (
+      (omega arith, omega arith, omega (arith, long), p .0 .0 .most, p .0 .3, p .0 .4),
+      hornerAt-ready (omega arith, omega arith) l (taken (c .before)) (omega (arith, p .0 .3)) (p .1 .1),
+    )
 
 add-t : tie.Need-add-t Inv-loop μ-loop
-add-t c = omega (arith, c .before .before .before .before .before .before .before .before .before .before .before .before .loop-test .taken, c .before .before .before .before .before .before .before .before .before .before .before .before .before .before .before .before .before .before .before .before .pre .0 .2)
+add-t c = omega (arith, turn (passed c) .loop-test .taken, start (turn (passed c)) .pre .0 .1)
 
 loop-less : tie.Need-loop-less Inv-loop μ-loop
-loop-less c = omega (arith, c .before .before .before .before .before .before .before .before .before .before .before .before .loop-test .taken)
+loop-less c = omega (arith, turn (passed c) .loop-test .taken)
 
 loop-again : tie.Need-loop-again Inv-loop μ-loop
 loop-again c =
-    let a = c .before .before .before .before .before .before .before .before .before .before .before .before .before .before .before .before .before .before .before .before .args in
-    let p = c .before .before .before .before .before .before .before .before .before .before .before .before .before .before .before .before .before .before .before .before .pre in
-    value-next (a .n) (a .q) (a .qlen) (a .d) (a .octets .now) (p .0 .4) (p .1 .0) _ _ _ (c .before .before .before .before .before .before .before .before .before .before .before .before .loop-test .taken) (loaded-room (c .before .before .before .before .before .before .before .before .before .before .before .before .before .before .before .before))
-    (c .before .before .before .before .before .before .before .before .before .before .before .before .before .loop .inv) (c .before .before .before .before .before .before .before .before .before .before .row .ensures) (c .before .before .before .before .before .before .before .before .before .before .row .kept .1 .1 .1 .1 .1 .1 .0)
-    (c .before .before .before .before .before .before .multiply-add-small .ensures) (c .before .before .before .before .before .before .multiply-add-small .kept .0) (c .before .before .copy .ensures) (c .before .before .copy .kept .0)
+    let l = turn (passed c) in
+    let a = start l .args in
+    let r = l .before .loop in (
+      omega (arith, l .loop-test .taken),
+      hornerAt-next (omega arith, omega arith) (r .inv .1) (taken (passed c))
+          (number-fits (rowFits (a .d) (fitsAt (a .q) (a .n) (a .qlen) (a .octets .now)) (r .t)) (sym (passed c .before .before .before .row .ensures .0) ∙ passed c .if1 .left))
+          (λ k m. ap (λ (x : ℕ). x % a .q) (row-cong (a .n) (a .d) (flat (a .n) (a .qlen) (a .octets .now)) (r .t) (same-x l) k m)) (c .before .before .step .ensures),
+    )
 
-same-length : tie.Need-same-length Inv-loop μ-loop
-same-length c = c .before .loop .inv .as-long ∙ c .before .before .before .before .load .kept .1 .1 .1 .1 .0
-
-returns : tie.Need-returns Inv-loop μ-loop
-returns c =
-    let a = c .before .before .before .before .before .before .before .before .args in
-    let p = c .before .before .before .before .before .before .before .before .pre in
-    value-last (a .n) (a .q) (a .qlen) (a .d) (a .octets .now) (p .0 .4) (p .1 .0) (a .work .now) _ (omega (arith, c .loop-test .left)) (c .before .loop .inv) (loaded (c .before .before .before .before))
+returns-2 : tie.Need-returns-2 Inv-loop μ-loop
+unfolding fitNumber nested
+returns-2 c =
+    let a = c .before .before .before .before .args in
+    let l = c .before .loop in
+    let all : l .t ≡ suc (a .d) = omega (arith, l .inv .0, c .loop-test .left) in
+    let fits = fitsAt (a .q) (a .n) (a .qlen) (a .octets .now) in (
+      number-zero (decoded-fits (a .q) (a .n) (a .qlen) (a .octets .now) (monomialCount (a .d)) ∙ rows-all (a .d) fits (rw all at (l .inv .1 .fit))),
+      λ z k m. hornerAt-all all (l .inv .1) .placed k m ∙ ap (λ (x : ℕ). x % a .q) (nested-value (a .n) (a .d) (flat (a .n) (a .qlen) (a .octets .now)) (part (a .work .now) 0) (part (a .work .now) (a .n)) m),
+    )
 
 pub evaluate-spec : {M : Type 1} → statement M
 evaluate-spec =
@@ -149,18 +112,15 @@ evaluate-spec =
     (tie.spec
     Inv-loop
     μ-loop
-    mul-load
-    load-requires
     loop-holds
     row-requires
-    mul-multiply-add-small
-    mul-multiply-add-small-2
-    multiply-add-small-requires
-    mul-copy
-    mul-copy-2
-    copy-requires
+    (λ c. search needs)
+    returns
+    (λ c. search needs)
+    (λ c. search needs)
+    step-requires
     add-t
     loop-less
     loop-again
-    same-length
-    returns)
+    (λ c. c .before .loop .inv .1 .as-long)
+    returns-2)
