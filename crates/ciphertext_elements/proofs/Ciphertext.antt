@@ -24,7 +24,7 @@ use Rattle.definitions.proofs.Filling.{tabulate-add, length-borrowed}
 use Rattle.definitions.proofs.Ring.{conv-cong}
 use Rattle.definitions.proofs.Octets.{length-encoded, encoded-append}
 use Rattle.ring.specs.Work.{part, written}
-use Rattle.values.specs.Folding.{flat}
+use Rattle.decoding.specs.Elements.{flat}
 use Rattle.mask_products.specs.Products.{maskIn, Summed}
 use Rattle.mask_products.proofs.Sums.{count-six, summed-then}
 use Rattle.ciphertext_elements.specs.Elements.{encryptedSum}

@@ -29,8 +29,8 @@ use Rattle.parameters.proofs.NoiseBound.{partial, power, partial-suc, partial-l
 use Rattle.definitions.proofs.Octets.{coefficientsFit-at}
 use Rattle.ring.specs.Work.{part, written, Apart}
 use Rattle.ring.proofs.Work.{part-written, getD-written, getD-written-before, getD-written-after, length-written, length-written-tabulate}
-use Rattle.values.specs.Folding.{flat}
-use Rattle.values.proofs.Parts.{putMid-written}
+use Rattle.decoding.specs.Elements.{flat}
+use Rattle.ring.proofs.Lent.{putMid-written}
 use Rattle.mask_products.specs.Products.{Inputs, Summed}
 use Rattle.mask_products.proofs.Sums.{count-six, summed-none, summed-same}
 use Rattle.ciphertext_elements.specs.Elements.{Ready}

@@ -16,7 +16,7 @@ use Rattle.definitions.specs.Monomials.{productOf}
 use Rattle.definitions.specs.Calls.{smallOf, noiseOf}
 use Rattle.definitions.proofs.Monomials.{monomialCount-pos}
 use Rattle.definitions.proofs.Octets.{octetsFrom-cong}
-use Rattle.values.specs.Folding.{flat}
+use Rattle.decoding.specs.Elements.{flat}
 use Rattle.mask_products.specs.Products.{maskIn, Inputs, Summed}
 use Rattle.mask_products.proofs.Sums.{count-six, summed-same}
 use Rattle.shared_products.specs.Sharing.{keyIn, Prepared, SharedInputs, Kept}

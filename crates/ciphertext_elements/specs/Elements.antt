@@ -15,7 +15,7 @@ use Rattle.definitions.specs.Ring.{Element, InRing}
 use Rattle.definitions.specs.Monomials.{Polynomial, constantTerm, productOf}
 use Rattle.definitions.specs.Calls.{elementsFit, smallOf, octetsFrom, noiseOf, encryptedWith}
 use Rattle.definitions.specs.Demand3.{AcceptedSet}
-use Rattle.values.specs.Folding.{flat}
+use Rattle.decoding.specs.Elements.{flat}
 use Rattle.mask_products.specs.Products.{maskIn}
 use Rattle.shared_products.specs.Sharing.{Prepared}
 

@@ -19,7 +19,7 @@ ghost use Rattle.definitions.specs.Calls.{smallOf, noiseOf};
 ghost use Rattle.definitions.specs.Demand3.{AcceptedSet};
 ghost use Rattle.parameters.specs.Answers.{setFrom};
 ghost use Rattle.ring.specs.Work.{part, written};
-ghost use Rattle.values.specs.Folding.{flat};
+ghost use Rattle.decoding.specs.Elements.{flat};
 ghost use Rattle.mask_products.specs.Products.{maskIn, Inputs, Summed};
 ghost use Rattle.ciphertext_elements.specs.Elements.{encryptedSum, encryptedFrom, Ready, Shared};
 use parameters::Parameters;

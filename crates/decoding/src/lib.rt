@@ -1,11 +1,14 @@
 // Octets to coefficients: qlen octets each, least significant first (01, "Ring, monomials, octets"). The contracts cite the definitions'
-// numberOf and decoded. The loop is written once, with qlen as a variable; `decode` calls it with a constant, so that the compiler makes a
+// numberOf and decoded, and specs/Elements.antt. The loop is written once, with qlen as a variable; `decode` calls it with a constant, so that the compiler makes a
 // loop for each qlen. Four octets are read at once where there is room for them, and the last few coefficients one by one. Nothing is
 // refused: callers have compared the lengths and judged the coefficients.
 ghost use mathlib.Core.Path.{_≡_};
 ghost use Prim.Native.Nat.{ℕ, _+_, _*_, _≤_, _<_};
 ghost use lib.ListN.{length, take, drop};
+ghost use Rattle.definitions.specs.Sequences.{tabulate};
 ghost use Rattle.definitions.specs.Octets.{numberOf, decoded};
+ghost use Rattle.ring.specs.Work.{written};
+ghost use Rattle.decoding.specs.Elements.{Sizes, flat};
 
 fn wide(octet: u8) -> u32
     ensures { λ r. ⌜ (r ≡ octet) × (r < 256) ⌝ }
@@ -103,4 +106,15 @@ pub fn decode(octets: &[u8], qlen: usize, words: &mut [u32])
         return;
     }
     decode_by(octets, 4, words);
+}
+
+// The element at a place of the octets, into a part of the work words.
+pub fn element(octets: &[u8], element: usize, n: usize, qlen: usize, work: &mut [u32], at: usize)
+    requires { ⌜ Sizes n qlen (now work) × (element < 45) × (element * n * qlen + n * qlen ≤ length (now octets)) × (at + n ≤ length (now work)) ⌝ }
+    ensures { λ _. ⌜ now (work .exit) ≡ written at (tabulate n (flat n qlen (now (octets .entry)) element)) (now (work .entry)) ⌝ }
+{
+    let from = element * n * qlen;
+    let end = from + n * qlen;
+    let stop = at + n;
+    decode(&octets[from..end], qlen, &mut work[at..stop]);
 }

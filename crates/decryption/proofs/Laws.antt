@@ -23,7 +23,7 @@ use Rattle.definitions.proofs.Parameters.{Accepted, accepted-set, key-degree-mo
 use Rattle.definitions.proofs.Decryption.{tailClear-cong, messageOf-cong}
 use Rattle.ring.specs.Work.{part}
 use Rattle.definitions.proofs.Exits.{exit-set, exit-length, exit-refused, exit-accepted}
-use Rattle.secrets.specs.Secrets.{Exact, Valued, judgeTests}
+use Rattle.secrets.specs.Secrets.{ValueInputs, Valued, judgeTests}
 use Rattle.decryption.specs.Decrypted.{tailTests, MessageOf, Decrypted}
 
 module _ (p : Parameters) (secret ciphertext : List ℕ) {refusal : ℕ} {work : List ℕ} (v : Valued p (degree p) secret ciphertext refusal work) where
@@ -99,7 +99,7 @@ module _ (p : Parameters) (secret ciphertext old work : List ℕ) where
         ))
 
   pub decrypt-exact : AcceptedSet p → length secret ≡ secretLength p → length ciphertext ≡ ciphertextLength p → length work ≡ workLength p
-      → Exact p (degree p) secret ciphertext work
+      → ValueInputs p (degree p) secret ciphertext work
   unfolding ciphertextLength
   decrypt-exact set s k w =
       let a : Accepted p = accepted-set p set in
@@ -112,7 +112,7 @@ module _ (p : Parameters) (secret ciphertext old work : List ℕ) where
         work-length = w;
       }
 
-  module _ (exact : Exact p (degree p) secret ciphertext work) (message-length : length old ≡ messageLength p) where
+  module _ (exact : ValueInputs p (degree p) secret ciphertext work) (message-length : length old ≡ messageLength p) where
     lengths : (eqb (length secret) (secretLength p)
         && (eqb (length ciphertext) (ciphertextLength p)
         && (eqb (length old) (messageLength p) && eqb (length work) (workLength p)))) ≡ true

@@ -12,7 +12,7 @@ ghost use Rattle.definitions.specs.Calls.{DecryptExit, decryptExit};
 ghost use Rattle.definitions.specs.Demand3.{AcceptedSet};
 ghost use Rattle.parameters.specs.Answers.{setFrom};
 ghost use Rattle.ring.specs.Work.{part, written};
-ghost use Rattle.secrets.specs.Secrets.{Exact};
+ghost use Rattle.secrets.specs.Secrets.{ValueInputs};
 ghost use Rattle.decryption.specs.Decrypted.{MessageOf, Decrypted};
 use parameters::Parameters;
 use parameters::refusals;
@@ -41,7 +41,7 @@ fn write_message(p: Parameters, message: &mut [u8], work: &mut [u32]) -> u32
     reduce(work, at, n, p.l);
     let b = parameters::bits(p.l);
     let tail = at + ((p.mlen / b) as usize);
-    if secrets::vanishes(work, tail, end) == 0 {
+    if ring::vanishes(work, tail, end) == 0 {
         return refusals::TAIL;
     }
     packing::pack(&work[at..end], b, message);
@@ -56,7 +56,7 @@ fn decrypted(
     message: &mut [u8],
     work: &mut [u32],
 ) -> u32
-    requires { ⌜ Exact (setFrom p) (p .dx + p .dr) (now secret) (now ciphertext) (now work) × (length (now message) ≡ messageLength (setFrom p)) ⌝ }
+    requires { ⌜ ValueInputs (setFrom p) (p .dx + p .dr) (now secret) (now ciphertext) (now work) × (length (now message) ≡ messageLength (setFrom p)) ⌝ }
     ensures { λ r. ⌜ Decrypted (setFrom p) (now (secret .entry)) (now (ciphertext .entry)) r (now (message .entry)) (now (message .exit)) ⌝ }
 {
     let d = (p.dx + p.dr) as usize;

@@ -5,6 +5,7 @@ pub mod Powers
 pub mod Congruence
 pub mod Ring
 pub mod Monomials
+pub mod Rows
 pub mod Values
 pub mod Noise
 pub mod Tests

@@ -5,7 +5,7 @@ use native.Mathlib.Nat.{add-zero, add-suc, zero-add, zero-mul, mul-zero, mul-one
 use native.Mathlib.Omega.{arith}
 use native.Mathlib.Decide.{ℕ-discrete}
 use mathlib.Core.Path.{_≡_, refl, sym, _∙_, ap, ap₂}
-use mathlib.Core.Bool.{Bool, true, _&&_}
+use mathlib.Core.Bool.{Bool, true, false, _&&_}
 use mathlib.Core.List.{List, [], _∷_}
 use lib.ListN.{length, getD}
 use lib.Arith.{lt-of-le-ne}
@@ -103,6 +103,14 @@ every-at (suc n) f e {k} l =
       | yes g ↦ rw g (both-true (every n f) (f n) e .1)
       | no g ↦ every-at n f (both-true (every n f) (f n) e .0) (lt-of-le-ne (le-of-suc-le-suc l) g)
     ]
+
+-- a test that fails at one place does not hold at every place
+pub every-false : (n : ℕ) (f : ℕ → Bool) {k : ℕ} → k < n → f k ≡ false → every n f ≡ false
+every-false n f {k} l e = go (every n f) refl
+  where
+    go : (t : Bool) → every n f ≡ t → every n f ≡ false
+    go false h = h
+    go true h = let z : f k ≡ true = every-at n f h l in cc
 
 module _ {A : Type 0} where
   pub length-tabulate : (n : ℕ) (f : ℕ → A) → length (tabulate n f) ≡ n

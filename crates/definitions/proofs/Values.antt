@@ -1,6 +1,6 @@
 -- The value of a polynomial in x and y at (u_x, u_y): it keeps sums, multiples and products, and a constant's value is itself.
 -- Assumes nothing.
-use Prim.Native.Nat.{ℕ, suc, _+_, _-_, _*_, _<_}
+use Prim.Native.Nat.{ℕ, zero, suc, _+_, _-_, _*_, _<_}
 use native.Mathlib.Nat.{zero-add, mul-comm}
 use native.Mathlib.Omega.{arith}
 use mathlib.Core.Path.{_≡_, refl, sym, _∙_, ap}
@@ -58,6 +58,20 @@ pub value-cong : (n d : ℕ) {f g : Polynomial} (ux uy : Element) → ((i : ℕ)
     → (k : ℕ) → value n d f ux uy k ≡ value n d g ux uy k
 unfolding value
 value-cong n d ux uy h k = valueOver-cong (monomialCount d) n d ux uy h k
+
+-- the value goes by the secret's coefficients below n alone
+power-cong : (n : ℕ) {a b : Element} → ((i : ℕ) → i < n → a i ≡ b i) → (i k : ℕ) → power n a i k ≡ power n b i k
+unfolding power
+power-cong n h zero k = refl
+power-cong n h (suc i) k = conv-cong n h (λ j l. power-cong n h i j) k
+
+pub value-cong-secret : (n d : ℕ) (f : Polynomial) {ux uy vx vy : Element} → ((i : ℕ) → i < n → ux i ≡ vx i) → ((i : ℕ) → i < n → uy i ≡ vy i)
+    → (k : ℕ) → value n d f ux uy k ≡ value n d f vx vy k
+unfolding value valueOver evaluated
+value-cong-secret n d f hx hy k =
+    sum-cong (monomialCount d)
+    (λ i l. conv-cong n (λ j s. refl)
+    (λ j s. conv-cong n (λ m u. power-cong n hx (monomialAt d i .x) m) (λ m u. power-cong n hy (monomialAt d i .y) m) j) k)
 
 pub value-cong-modulo : (n d : ℕ) {q : ℕ} {f g : Polynomial} (ux uy : Element) → ((i : ℕ) → i < monomialCount d → (k : ℕ) → k < n → Cong q (f i k) (g i k))
     → (k : ℕ) → Cong q (value n d f ux uy k) (value n d g ux uy k)

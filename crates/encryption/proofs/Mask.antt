@@ -28,7 +28,7 @@ use Rattle.draws.specs.declared.Run.the-variants.{Complete}
 use Rattle.draws.specs.Runs.{said, drawnAnswer}
 use Rattle.draws.proofs.Groups.{drawsAt-within}
 use Rattle.draws.proofs.Runs.{said-complete}
-use Rattle.values.specs.Folding.{flat}
+use Rattle.decoding.specs.Elements.{flat}
 use Rattle.mask_products.specs.Products.{maskIn}
 use Rattle.ciphertext_elements.specs.Elements.{Ready}
 use Rattle.ciphertext_elements.proofs.Ciphertext.{SameUpTo, encryptedWith-cong, ofMask}

@@ -42,14 +42,14 @@ coefficientsFit-snoc q xs x =
       every-cong (length xs) {f = λ m. ltb (getD (xs ++ (x ∷ [])) m 0) q} {g = λ m. ltb (getD xs m 0) q} (λ k l. rw (List·getD-append xs (x ∷ []) 0 k l)),
     )
 
-coefficientsFit-none : (q : ℕ) → coefficientsFit q [] ≡ true
+pub coefficientsFit-none : (q : ℕ) → coefficientsFit q [] ≡ true
 unfolding coefficientsFit every
 coefficientsFit-none q = refl
 
 coefficientsFit-one : (q x : ℕ) → coefficientsFit q (x ∷ []) ≡ ltb x q
 coefficientsFit-one q x = coefficientsFit-snoc q [] x ∙ rw (coefficientsFit-none q)
 
-coefficientsFit-append : (q : ℕ) (ys xs : List ℕ) → coefficientsFit q (xs ++ ys) ≡ (coefficientsFit q xs && coefficientsFit q ys)
+pub coefficientsFit-append : (q : ℕ) (ys xs : List ℕ) → coefficientsFit q (xs ++ ys) ≡ (coefficientsFit q xs && coefficientsFit q ys)
 coefficientsFit-append q [] xs = rw (append-nil xs, coefficientsFit-none q, and-true (coefficientsFit q xs))
 coefficientsFit-append q (y ∷ ys) xs =
     let first : coefficientsFit q (y ∷ ys) ≡ (ltb y q && coefficientsFit q ys) = coefficientsFit-append q ys (y ∷ []) ∙ rw (coefficientsFit-one q y) in
@@ -79,6 +79,14 @@ module _ (q : ℕ) (xs ys : List ℕ) where
 -- ---- what reading tells
 
 module _ (q x : ℕ) where
+  pub reading-value : {v : ℕ} → coefficientAnswer q x ≡ accepted v → v ≡ x
+  unfolding coefficientAnswer answer firstRefusal
+  reading-value {v} e = go (ltb x q) e
+    where
+      go : (t : Bool) → answer [] (refuse 8 (not t) ∷ []) x ≡ accepted v → v ≡ x
+      go true e = cc
+      go false e = cc
+
   pub reading-below : (v : ℕ) → coefficientAnswer q x ≡ accepted v → coefficientsFit q (x ∷ []) ≡ true
   unfolding coefficientAnswer answer firstRefusal
   reading-below v e = coefficientsFit-one q x ∙ go (ltb x q) e
@@ -113,7 +121,7 @@ unfolding decoded tabulate
 fitNumber-none q qlen octets = fitNumber-nil q
 
 module _ (q qlen : ℕ) (octets : List ℕ) (m k : ℕ) where
-  decoded-more : decoded qlen (m + k) octets ≡ decoded qlen m octets ++ coefficientsFrom qlen octets m k
+  pub decoded-more : decoded qlen (m + k) octets ≡ decoded qlen m octets ++ coefficientsFrom qlen octets m k
   unfolding decoded
   decoded-more = tabulate-add m k (coefficientAt qlen octets)
 

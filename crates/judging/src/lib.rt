@@ -1,7 +1,8 @@
 // Whether given coefficients fit (01, "Refusal table", number 8): octets and words are judged, and 8 is answered where one is not below the
-// limit. A judge reads several coefficients at a time, returns at the first of these where one is too large, and reads what is left one by
-// one; small words it reads all at once. The contracts cite specs/Reading.antt and the definitions' coefficientAt and decoded. The loop over
-// octets is written once, with qlen as a variable, and called with a constant, so that the compiler makes a loop for each qlen.
+// limit. `read` takes each coefficient's value as it judges it, for callers that may write before a refusal. A judge writes nothing: it reads
+// several coefficients at a time, returns at the first of these where one is too large, and reads what is left one by one; small words it
+// reads all at once. The contracts cite specs/Reading.antt and the definitions' coefficientAt and decoded. The loops over octets are
+// written once, with qlen as a variable, and called with a constant, so that the compiler makes a loop for each qlen.
 use parameters::refusals;
 ghost use mathlib.Core.Path.{_≡_};
 ghost use Prim.Native.Nat.{_+_, _*_, _/_, _^_, _≤_};
@@ -106,6 +107,41 @@ pub fn judge(octets: &[u8], qlen: usize, q: u32) -> u32
         return judge_by(octets, 3, q);
     }
     judge_by(octets, 4, q)
+}
+
+// The coefficients of the octets, into words, up to one that is too large.
+fn read_by(octets: &[u8], qlen: usize, q: u32, words: &mut [u32]) -> u32
+    requires { ⌜ (1 ≤ qlen) × (qlen ≤ 4) × (length (now words) * qlen ≤ length (now octets)) ⌝ }
+    ensures { λ r. ⌜ r ≡ fitNumber q (decoded qlen (length (now (words .entry))) (now (octets .entry))) ⌝ }
+    ensures { λ r. ⌜ (r ≡ 0 → now (words .exit) ≡ decoded qlen (length (now (words .entry))) (now (octets .entry))) ⌝ }
+{
+    let mut m = 0;
+    while m < words.len() {
+        let Coefficient::Below(x) = coefficient_at(octets, m, qlen, q) else {
+            return refusals::COEFFICIENT;
+        };
+        words[m] = x;
+        m += 1;
+    }
+    0
+}
+
+// The coefficients of the octets, as words, and 0; or 8 where one of them is not below q.
+pub fn read(octets: &[u8], qlen: usize, q: u32, words: &mut [u32]) -> u32
+    requires { ⌜ (1 ≤ qlen) × (qlen ≤ 4) × (length (now words) * qlen ≤ length (now octets)) ⌝ }
+    ensures { λ r. ⌜ r ≡ fitNumber q (decoded qlen (length (now (words .entry))) (now (octets .entry))) ⌝ }
+    ensures { λ r. ⌜ (r ≡ 0 → now (words .exit) ≡ decoded qlen (length (now (words .entry))) (now (octets .entry))) ⌝ }
+{
+    if qlen == 1 {
+        return read_by(octets, 1, q, words);
+    }
+    if qlen == 2 {
+        return read_by(octets, 2, q, words);
+    }
+    if qlen == 3 {
+        return read_by(octets, 3, q, words);
+    }
+    read_by(octets, 4, q, words)
 }
 
 // 32 words from place m on, in the same way.

@@ -21,9 +21,8 @@ use Rattle.definitions.proofs.Sums.{tabulate-cong}
 use Rattle.definitions.proofs.Parameters.{Accepted, modulus-positive, modulus-word, qlen-holds}
 use Rattle.definitions.proofs.Monomials.{monomialCount-pos}
 use Rattle.definitions.proofs.Octets.{AllBelow, below-append, length-encoded, encoded-append, coefficientAt-encoded}
-use Rattle.definitions.proofs.Values.{value-split, valueOver-cong}
-use Rattle.values.specs.Folding.{flat}
-use Rattle.values.proofs.Stages.{value-cong-secret}
+use Rattle.definitions.proofs.Values.{value-split, valueOver-cong, value-cong-secret}
+use Rattle.decoding.specs.Elements.{flat}
 
 coefficientAt-whole : (len : ℕ) (xs : List ℕ) (m : ℕ) → AllBelow (256 ^ len) xs → m < length xs → coefficientAt len (encoded len xs) m ≡ getD xs m 0
 coefficientAt-whole len xs m h l =

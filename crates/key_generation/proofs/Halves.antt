@@ -23,7 +23,7 @@ use Rattle.definitions.proofs.Small.{unpacked-small}
 use Rattle.parameters.proofs.Bounds.{smallBits-within}
 use Rattle.ring.specs.Work.{part}
 use Rattle.ring.proofs.Work.{getD-written, getD-written-before}
-use Rattle.values.proofs.Parts.{putMid-written}
+use Rattle.ring.proofs.Lent.{putMid-written}
 use Rattle.key_generation.specs.Keys.{SecretWritten}
 
 pub secretDrawn-fits : (p : Parameters) (random : List ℕ) {b : ℕ} {words : List ℕ} → b ≡ smallBits (p .l) → words ≡ secretDrawn p random

@@ -28,7 +28,7 @@ use Rattle.draws.specs.Runs.{said, drawnAnswer}
 use Rattle.draws.specs.declared.Run.{Run}
 use Rattle.ring.specs.Work.{part, written}
 use Rattle.ring.proofs.Work.{written-part}
-use Rattle.values.proofs.Stages.{count-most}
+use Rattle.definitions.proofs.Rows.{monomialCount-mono-le}
 use Rattle.key_generation.specs.Keys.{drawnWords}
 
 pub tail-length : (at : ℕ) (l : List ℕ) → at ≤ length l → length (take (length l - at) (drop at l)) ≡ length l - at
@@ -38,7 +38,7 @@ tail-length at l h = simp (length-take, length-drop) (omega arith)
 
 pub elements-most : (p : Parameters) → Accepted p → monomialCount (p .dx) - 1 ≤ 5
 elements-most p a =
-    let six : monomialCount (p .dx) ≤ 6 = unfold monomialCount in count-most (p .dx) 2 (key-degree-most p a) in
+    let six : monomialCount (p .dx) ≤ 6 = unfold monomialCount in monomialCount-mono-le (p .dx) 2 (key-degree-most p a) in
     omega arith
 
 pub drawn-room : (n elements : ℕ) → elements ≤ 5 → 2 * n + elements * n + n ≤ 8 * n

@@ -20,7 +20,7 @@ use Rattle.definitions.proofs.Parameters.{Accepted, accepted-set, modulus-posit
 use Rattle.definitions.proofs.Monomials.{monomialCount-pos}
 use Rattle.definitions.proofs.MadeKeys.{keyDraws-below}
 use Rattle.ring.specs.Work.{part}
-use Rattle.values.specs.Folding.{Sizes, flat}
+use Rattle.decoding.specs.Elements.{Sizes, flat}
 use Rattle.key_generation.specs.Keys.{drawnWords, keysOf, Ready, SecretWritten}
 use Rattle.key_generation.proofs.Parts.{elements-most, drawn-room, drawn-length}
 use Rattle.key_generation.proofs.Halves.{secretDrawn-small}

@@ -18,7 +18,7 @@ ghost use Rattle.definitions.specs.Demand3.{AcceptedSet};
 ghost use Rattle.parameters.specs.Answers.{setFrom};
 ghost use Rattle.draws.specs.Runs.{said, drawnAnswer};
 ghost use Rattle.ring.specs.Work.{part};
-ghost use Rattle.values.specs.Folding.{Sizes, flat};
+ghost use Rattle.decoding.specs.Elements.{Sizes, flat};
 ghost use Rattle.key_generation.specs.Keys.{drawnWords, Ready, SecretWritten, KeysWritten};
 use draws::Run;
 use parameters::Parameters;

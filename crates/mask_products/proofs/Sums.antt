@@ -26,14 +26,14 @@ use Rattle.monomials.specs.Pairs.{monomialFrom}
 use Rattle.monomials.specs.declared.Exponents.{Exponents}
 use Rattle.ring.specs.Work.{part, written}
 use Rattle.ring.proofs.Work.{part-written, getD-written-before, getD-written, getD-written-after, length-written, length-written-tabulate}
-use Rattle.values.specs.Folding.{flat}
-use Rattle.values.proofs.Parts.{part-room}
-use Rattle.values.proofs.Stages.{count-most}
+use Rattle.decoding.specs.Elements.{flat}
+use Rattle.ring.proofs.Lent.{part-room}
+use Rattle.definitions.proofs.Rows.{monomialCount-mono-le}
 use Rattle.mask_products.specs.Products.{maskIn, pairTerm, Inputs, Summed}
 
 -- a list of at most degree 2 has at most six monomials
 pub count-six : (d : ℕ) → d ≤ 2 → monomialCount d ≤ 6
-count-six d l = unfold monomialCount in count-most d 2 l
+count-six d l = unfold monomialCount in monomialCount-mono-le d 2 l
 
 -- a test as a number
 flag-cases : (t : Bool) → (_≡_ {A = ℕ} (cond t 1 0) 0) ⊎ (_≡_ {A = ℕ} (cond t 1 0) 1)

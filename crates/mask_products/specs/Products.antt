@@ -14,7 +14,7 @@ use Rattle.definitions.specs.Parameters.{monomialCount}
 use Rattle.definitions.specs.Ring.{Element, InRing, conv}
 use Rattle.definitions.specs.Monomials.{Polynomial, monomialAt, sameMonomial}
 use Rattle.ring.specs.Work.{part}
-use Rattle.values.specs.Folding.{Sizes, flat}
+use Rattle.decoding.specs.Elements.{Sizes, flat}
 
 abbrev pub maskIn : ℕ → List ℕ → Polynomial
 maskIn n work j = part work (j * n)

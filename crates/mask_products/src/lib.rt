@@ -11,7 +11,7 @@ ghost use Rattle.definitions.specs.Parameters.{monomialCount};
 ghost use Rattle.definitions.specs.Ring.{InRing};
 ghost use Rattle.definitions.specs.Monomials.{monomialAt, sameMonomial, productOf};
 ghost use Rattle.ring.specs.Work.{part};
-ghost use Rattle.values.specs.Folding.{flat};
+ghost use Rattle.decoding.specs.Elements.{flat};
 ghost use Rattle.mask_products.specs.Products.{maskIn, pairTerm, Inputs, Summed};
 
 // 1 where the i-th monomial of degree dx times the j-th of dr is the m-th of dx + dr, otherwise 0.
@@ -51,7 +51,7 @@ fn add_pair(
         return;
     }
     let spare = 6 * n;
-    values::load(public, i, n, qlen, work, spare);
+    decoding::element(public, i, n, qlen, work, spare);
     products::multiply_add(work, spare, j * n, 7 * n, n, q, q);
 }
 

@@ -1,9 +1,11 @@
 // Sums and multiples in R_q over the work words (01, "Ring, monomials, octets"): elements stand in one slice, each from an offset on, or in
 // another list. Nothing is refused: callers keep parts within the words and coefficients below q. Contracts cite specs/Work.antt.
+ghost use mathlib.Core.Bool.{cond};
 ghost use mathlib.Core.Path.{_≡_};
 ghost use Prim.Native.Nat.{_+_, _-_, _%_, _<_, _≤_};
+ghost use lib.Dec.{eqb};
 ghost use lib.ListN.{length, replicate};
-ghost use Rattle.definitions.specs.Sequences.{tabulate};
+ghost use Rattle.definitions.specs.Sequences.{every, tabulate};
 ghost use Rattle.definitions.specs.Ring.{scale, InRing};
 ghost use Rattle.ring.specs.Work.{part, written, Apart, elementAdded, elementTaken, otherAdded, otherTaken, scaledAdded, negated};
 
@@ -158,4 +160,19 @@ pub fn cleared(work: &mut [u32], number: u32) -> u32
 {
     clear(work);
     number
+}
+
+// 1 where all words from one place to another are 0, otherwise 0.
+pub fn vanishes(work: &[u32], from: usize, end: usize) -> u32
+    requires { ⌜ end ≤ length (now work) ⌝ }
+    ensures { λ r. ⌜ r ≡ cond (every (end - from) (λ k. eqb (part (now (work .entry)) from k) 0)) 1 0 ⌝ }
+{
+    let mut i = from;
+    while i < end {
+        if work[i] != 0 {
+            return 0;
+        }
+        i += 1;
+    }
+    1
 }

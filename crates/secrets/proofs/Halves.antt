@@ -1,7 +1,7 @@
 -- Why the two halves of a secret's octets are its two elements: each has the octets of one, and no more.
 --
 --   half-second      the octets from the second half on are that half
---   padded-..        what the tests of both halves say of the whole secret
+--   bits-clear-..        what the tests of both halves say of the whole secret
 --   unpacked-halves  both halves unpacked into the first two parts
 -- Assumes nothing.
 use Prim.Native.Nat.{ℕ, _+_, _*_, _≤_, zero-le}
@@ -13,7 +13,7 @@ use lib.ListN.{length, getD, drop, length-drop}
 use lib.Seq.{take-all}
 use Rattle.definitions.specs.Parameters.{Parameters, smallBits, smallLength, secretLength, workLength}
 use Rattle.definitions.specs.Octets.{unpacked, paddingClear}
-use Rattle.definitions.specs.Calls.{smallOf, secretX, secretY, secretPadded}
+use Rattle.definitions.specs.Calls.{smallOf, secretX, secretY, secretBitsClear}
 use Rattle.definitions.proofs.Parameters.{secretLength-halves}
 use Rattle.definitions.proofs.Packing.{length-unpacked}
 use Rattle.ring.specs.Work.{written}
@@ -33,13 +33,13 @@ module _ (p : Parameters) (secret : List ℕ) (exact : length secret ≡ secretL
   abbrev clear : ℕ → Bool
   clear from = paddingClear (p .n * smallBits (p .l)) (half p from secret)
 
-  pub padded-not : clear 0 ≡ false → false ≡ secretPadded p secret
-  unfolding secretPadded
-  padded-not e = rw e
+  pub bits-clear-not : clear 0 ≡ false → false ≡ secretBitsClear p secret
+  unfolding secretBitsClear
+  bits-clear-not e = rw e
 
-  pub padded-second : clear 0 ≡ true → clear (smallLength p) ≡ secretPadded p secret
-  unfolding secretPadded
-  padded-second e = rw (e, half-second)
+  pub bits-clear-second : clear 0 ≡ true → clear (smallLength p) ≡ secretBitsClear p secret
+  unfolding secretBitsClear
+  bits-clear-second e = rw (e, half-second)
 
   pub unpacked-halves : (work mid : List ℕ) {new : List ℕ} → length work ≡ workLength p
       → mid ≡ written 0 (unpacked (smallBits (p .l)) (p .n) (half p 0 secret)) work

@@ -15,16 +15,15 @@ use Rattle.definitions.specs.Parameters.{Parameters, qlen, monomialCount, eleme
 use Rattle.definitions.specs.Ring.{InRing, modulo}
 use Rattle.definitions.specs.Monomials.{polynomialOf, value}
 use Rattle.definitions.specs.Octets.{coefficientAt}
-use Rattle.definitions.specs.Calls.{secretX, secretY, secretPadded, decodedElements, polynomialFrom, elementsFit}
+use Rattle.definitions.specs.Calls.{secretX, secretY, secretBitsClear, decodedElements, polynomialFrom, elementsFit}
 use Rattle.definitions.proofs.Refusals.{firstRefusal-applies, firstRefusal-passes, firstRefusal-last}
 use Rattle.definitions.proofs.Parameters.{Accepted, accepted-set, modulus-positive, modulus-least, modulus-word, qlen-least, qlen-most, range-most}
 use Rattle.definitions.proofs.Octets.{getD-decoded, coefficientsFit-at}
 use Rattle.definitions.proofs.Small.{smallOf-below}
-use Rattle.definitions.proofs.Values.{value-cong}
+use Rattle.definitions.proofs.Values.{value-cong, value-cong-secret}
 use Rattle.ring.specs.Work.{part}
-use Rattle.values.specs.Folding.{Sizes, flat}
-use Rattle.values.proofs.Stages.{value-cong-secret}
-use Rattle.secrets.specs.Secrets.{Exact, Unpacked, Valued, valueFrom}
+use Rattle.decoding.specs.Elements.{Sizes, flat}
+use Rattle.secrets.specs.Secrets.{ValueInputs, Unpacked, Valued, valueFrom}
 
 module _ (p : Parameters) (d : ℕ) (secret octets : List ℕ) where
   pub polynomialFrom-flat : (i : ℕ) → i < monomialCount d → (k : ℕ) → k < p .n → flat (p .n) (qlen (p .q)) octets i k ≡ polynomialFrom p d octets i k
@@ -33,7 +32,7 @@ module _ (p : Parameters) (d : ℕ) (secret octets : List ℕ) where
       let inside : suc i * p .n ≤ monomialCount d * p .n = mul-le-mul-right (p .n) l in
       sym (getD-decoded (qlen (p .q)) (monomialCount d * p .n) octets (omega arith))
 
-  module _ {work : List ℕ} (exact : Exact p d secret octets work) where
+  module _ {work : List ℕ} (exact : ValueInputs p d secret octets work) where
     set : Accepted p
     set = accepted-set p (exact .set)
 
@@ -68,14 +67,14 @@ module _ (p : Parameters) (d : ℕ) (secret octets : List ℕ) where
       unfolding secretY
       unpacked-y k l = rw (u .y k l) (lt-of-lt-of-le (smallOf-below p set _ k l) (range-most p (set .range)))
 
-  pub valued-padding : (work : List ℕ) → secretPadded p secret ≡ false → Valued p d secret octets 7 work
+  pub valued-padding : (work : List ℕ) → secretBitsClear p secret ≡ false → Valued p d secret octets 7 work
   valued-padding work e =
       record {
         number = sym (firstRefusal-applies 7 _ _ (rw e));
         value = λ z. let n : ⊥ = omega arith in absurd n;
       }
 
-  module _ (padded : secretPadded p secret ≡ true) where
+  module _ (padded : secretBitsClear p secret ≡ true) where
     pub valued-coefficient : (work : List ℕ) → elementsFit p (monomialCount d) octets ≡ false → Valued p d secret octets 8 work
     valued-coefficient work e =
         record {

@@ -1,7 +1,7 @@
 -- What decryption and the zero test share: a polynomial of degree d in octets, and its value at a secret.
 --
 --   half             the octets of one small element, from a place of the secret on
---   Exact            a set and buffers that pass the tests up to the length test
+--   ValueInputs            a set and buffers that pass the tests up to the length test
 --   judgeTests       the tests that follow it in both calls: 7 of the secret, 8 of the polynomial
 --   valueFrom        the polynomial's value at the secret, in R_q
 --   Unpacked         both elements of the secret stand in the first two parts of the work words
@@ -16,14 +16,14 @@ use Rattle.definitions.specs.Refusals.{Test, refuse, firstRefusal}
 use Rattle.definitions.specs.Parameters.{Parameters, monomialCount, smallLength, secretLength, elementsLength, workLength}
 use Rattle.definitions.specs.Ring.{Element, modulo}
 use Rattle.definitions.specs.Monomials.{value}
-use Rattle.definitions.specs.Calls.{secretX, secretY, secretPadded, polynomialFrom, elementsFit}
+use Rattle.definitions.specs.Calls.{secretX, secretY, secretBitsClear, polynomialFrom, elementsFit}
 use Rattle.definitions.specs.Demand3.{AcceptedSet}
 use Rattle.ring.specs.Work.{part}
 
 abbrev pub half : Parameters → ℕ → List ℕ → List ℕ
 half p from secret = take (smallLength p) (drop from secret)
 
-pub record Exact (p : Parameters) (d : ℕ) (secret octets work : List ℕ) : Type 0 where
+pub record ValueInputs (p : Parameters) (d : ℕ) (secret octets work : List ℕ) : Type 0 where
   pub set : AcceptedSet p
   pub degree-least : 0 < d
   pub degree-most : d ≤ 4
@@ -33,7 +33,7 @@ pub record Exact (p : Parameters) (d : ℕ) (secret octets work : List ℕ) : Ty
 
 abbrev pub judgeTests : Parameters → ℕ → List ℕ → List ℕ → List Test
 judgeTests p d secret octets =
-    refuse 7 (not (secretPadded p secret)) ∷ refuse 8 (not (elementsFit p (monomialCount d) octets)) ∷ []
+    refuse 7 (not (secretBitsClear p secret)) ∷ refuse 8 (not (elementsFit p (monomialCount d) octets)) ∷ []
 
 abbrev pub valueFrom : Parameters → ℕ → List ℕ → List ℕ → Element
 valueFrom p d secret octets = modulo (p .q) (value (p .n) d (polynomialFrom p d octets) (secretX p secret) (secretY p secret))

@@ -2,22 +2,19 @@
 // The secret's unused bits are judged (7), then the polynomial's coefficients (8); the set and the lengths are the caller's to test. The
 // work words are left as they come; the caller clears them. The contracts cite the definitions' secretX, secretY and value.
 ghost use mathlib.Core.Path.{_≡_};
-ghost use mathlib.Core.Bool.{cond};
-ghost use Prim.Native.Nat.{_+_, _-_, _*_, _≤_};
-ghost use lib.Dec.{eqb};
+ghost use Prim.Native.Nat.{_+_, _*_, _≤_};
 ghost use lib.ListN.{length};
-ghost use Rattle.definitions.specs.Sequences.{every};
 ghost use Rattle.definitions.specs.Parameters.{smallBits, smallLength, secretLength, workLength};
 ghost use Rattle.definitions.specs.Octets.{unpacked, paddingClear};
-ghost use Rattle.definitions.specs.Calls.{secretPadded};
-ghost use Rattle.ring.specs.Work.{part, written};
+ghost use Rattle.definitions.specs.Calls.{secretBitsClear};
+ghost use Rattle.ring.specs.Work.{written};
 ghost use Rattle.parameters.specs.Answers.{setFrom};
-ghost use Rattle.secrets.specs.Secrets.{half, Exact, Unpacked, Valued};
+ghost use Rattle.secrets.specs.Secrets.{half, ValueInputs, Unpacked, Valued};
 use parameters::Parameters;
 use parameters::refusals;
 
 // Whether the unused bits of one element of the secret are zero.
-fn half_padded(p: Parameters, secret: &[u8], from: usize) -> bool
+fn half_bits_clear(p: Parameters, secret: &[u8], from: usize) -> bool
     requires { ⌜ from + smallLength (setFrom p) ≤ length (now secret) ⌝ }
     ensures { λ r. ⌜ r ≡ paddingClear (p .n * smallBits (p .l)) (half (setFrom p) from (now (secret .entry))) ⌝ }
 {
@@ -29,15 +26,15 @@ fn half_padded(p: Parameters, secret: &[u8], from: usize) -> bool
     true
 }
 
-fn padded(p: Parameters, secret: &[u8]) -> bool
+fn bits_clear(p: Parameters, secret: &[u8]) -> bool
     requires { ⌜ length (now secret) ≡ secretLength (setFrom p) ⌝ }
-    ensures { λ r. ⌜ r ≡ secretPadded (setFrom p) (now (secret .entry)) ⌝ }
+    ensures { λ r. ⌜ r ≡ secretBitsClear (setFrom p) (now (secret .entry)) ⌝ }
 {
     let second = lengths::small_length(p);
-    if !half_padded(p, secret, 0) {
+    if !half_bits_clear(p, secret, 0) {
         return false;
     }
-    half_padded(p, secret, second)
+    half_bits_clear(p, secret, second)
 }
 
 // One element of the secret, into a part of the work words.
@@ -62,10 +59,10 @@ fn unpack(p: Parameters, secret: &[u8], work: &mut [u32])
 
 // The value of the polynomial of degree d in the octets, into the third part.
 pub fn value(p: Parameters, d: usize, secret: &[u8], octets: &[u8], work: &mut [u32]) -> u32
-    requires { ⌜ Exact (setFrom p) d (now secret) (now octets) (now work) ⌝ }
+    requires { ⌜ ValueInputs (setFrom p) d (now secret) (now octets) (now work) ⌝ }
     ensures { λ r. ⌜ Valued (setFrom p) d (now (secret .entry)) (now (octets .entry)) r (now (work .exit)) ⌝ }
 {
-    if !padded(p, secret) {
+    if !bits_clear(p, secret) {
         return refusals::PADDING;
     }
     let qlen = lengths::octets_of_coefficient(p.q);
@@ -75,19 +72,4 @@ pub fn value(p: Parameters, d: usize, secret: &[u8], octets: &[u8], work: &mut [
     unpack(p, secret, work);
     values::evaluate(octets, d, p.n as usize, qlen, p.q, work);
     0
-}
-
-// 1 where all words from one place to another are 0, otherwise 0.
-pub fn vanishes(work: &[u32], from: usize, end: usize) -> u32
-    requires { ⌜ end ≤ length (now work) ⌝ }
-    ensures { λ r. ⌜ r ≡ cond (every (end - from) (λ k. eqb (part (now (work .entry)) from k) 0)) 1 0 ⌝ }
-{
-    let mut i = from;
-    while i < end {
-        if work[i] != 0 {
-            return 0;
-        }
-        i += 1;
-    }
-    1
 }

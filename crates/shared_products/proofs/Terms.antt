@@ -20,8 +20,8 @@ use Rattle.definitions.proofs.Sums.{sum-cong}
 use Rattle.definitions.proofs.Congruence.{cong-refl, cong-mod, cong-add, cong-mul}
 use Rattle.definitions.proofs.Ring.{conv-cong}
 use Rattle.ring.specs.Work.{part, written, productAdded}
-use Rattle.values.specs.Folding.{flat}
-use Rattle.values.proofs.Parts.{part-room}
+use Rattle.decoding.specs.Elements.{flat}
+use Rattle.ring.proofs.Lent.{part-room}
 use Rattle.mask_products.specs.Products.{maskIn, pairTerm, Inputs, Summed}
 use Rattle.mask_products.proofs.Sums as mask
 use Rattle.mask_products.proofs.Sums.{count-six, sameMonomial-cases, sum-next, summed-none, summed-same, summed-then, mask-kept, pairTerm-kept, summed-product}

@@ -21,7 +21,7 @@ use Rattle.definitions.proofs.Congruence.{Cong}
 use Rattle.definitions.proofs.Ring.{conv-cong}
 use Rattle.ring.specs.Work.{part, written, productAdded, elementAdded, elementTaken, otherAdded}
 use Rattle.ring.proofs.Work.{part-written, getD-written-before, getD-written-after, length-written-tabulate, written-written}
-use Rattle.values.proofs.Parts.{part-room}
+use Rattle.ring.proofs.Lent.{part-room}
 use Rattle.mask_products.specs.Products.{Summed}
 use Rattle.shared_products.specs.Sharing.{Holds}
 use Rattle.shared_products.proofs.Pairs.{sum-restored}

@@ -12,7 +12,7 @@ ghost use Rattle.definitions.specs.Parameters.{monomialCount};
 ghost use Rattle.definitions.specs.Ring.{InRing, add, conv};
 ghost use Rattle.definitions.specs.Monomials.{monomialAt, sameMonomial, productOf};
 ghost use Rattle.ring.specs.Work.{part, written};
-ghost use Rattle.values.specs.Folding.{flat};
+ghost use Rattle.decoding.specs.Elements.{flat};
 ghost use Rattle.mask_products.specs.Products.{maskIn, Inputs, Summed};
 ghost use Rattle.shared_products.specs.Sharing.{keyIn, Prepared, SharedInputs, Pair, Kept, bothTerms, rowOfPairs};
 
@@ -37,7 +37,7 @@ fn prepare_element(
     let spare = 6 * n;
     let total = 7 * n;
     mask_products::clear_sum(work, n, q);
-    values::load(public, i, n, qlen, work, spare);
+    decoding::element(public, i, n, qlen, work, spare);
     ring::copy_from(keys, at, work, spare, n);
     products::multiply_add(work, spare, at, total, n, q, q);
     ring::copy_from(diagonal, at, work, total, n);

@@ -1,5 +1,3 @@
-pub mod Folding
-pub mod Parts
-pub mod Turns
-pub mod Degrees
-pub mod Stages
+-- Why Horner's rule gives the value, and what its loops keep.
+pub mod Horner
+pub mod Loops

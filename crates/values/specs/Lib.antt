@@ -1,1 +1,2 @@
-pub mod Folding
+-- What the contracts cite besides the definitions.
+pub mod Horner

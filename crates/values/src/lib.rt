@@ -1,121 +1,81 @@
-// The value of a polynomial in x and y at a secret (01, "Draws from lent random octets": opening), which decryption, the zero test and a
-// key's constant need.
+// The value of a polynomial in x and y at a secret (01, "Draws from lent random octets": opening; 02, Q-9 and Q-11), which openings, the zero
+// test and a key's constant need.
 //
-// The polynomial's octets are lent. The work words are eight parts of n words: u_x, u_y, five for the terms of one total degree, and a spare
-// one. One total degree after the other is folded into the one below it: x^(k-j) y^j gives a factor u_x to x^(k-1-j) y^j, and y^k a factor
-// u_y to y^(k-1). So each term but the constant costs one product with a small element. Nothing is refused: callers have judged the octets
-// and keep the parts within the words. The contracts cite the definitions' value.
+// The polynomial's octets are lent. Horner's rule, x inside and y outside: a row is the terms of one power of y, taken by falling powers of x, and
+// the rows are taken by falling powers of y. Each term but one costs one product with a small element, and five parts of n words serve every
+// degree: u_x, u_y, the value, the row and a spare one. Each coefficient is read once, and 8 is answered at the first that is not below q; what
+// the words hold then is left open. The contracts cite the definitions' value, judging's fitNumber and specs/Horner.antt.
 ghost use mathlib.Core.Path.{_≡_};
-ghost use Prim.Native.Nat.{ℕ, _+_, _-_, _*_, _%_, _≤_, _<_};
-ghost use lib.ListN.{length, getD};
-ghost use Rattle.definitions.specs.Sequences.{tabulate};
+ghost use Prim.Native.Nat.{ℕ, _+_, _*_, _%_, _≤_, _<_};
+ghost use lib.ListN.{length};
 ghost use Rattle.definitions.specs.Parameters.{monomialCount};
-ghost use Rattle.definitions.specs.Ring.{InRing, conv};
+ghost use Rattle.definitions.specs.Ring.{InRing};
 ghost use Rattle.definitions.specs.Monomials.{value};
-ghost use Rattle.definitions.specs.Octets.{coefficientAt, decoded};
-ghost use Rattle.ring.specs.Work.{part, written};
-ghost use Rattle.values.specs.Folding.{Sizes, flat, slot, Placed, FoldedDegree};
+ghost use Rattle.definitions.specs.Octets.{decoded};
+ghost use Rattle.ring.specs.Work.{part};
+ghost use Rattle.decoding.specs.Elements.{Sizes, flat};
+ghost use Rattle.judging.specs.Reading.{coefficientNumber, fitNumber};
+ghost use Rattle.values.specs.Horner.{stepped, rowOf, fitsAt, rowFits, Placed};
 
-// The element at a place of the octets, into a part of the work words.
-pub fn load(octets: &[u8], element: usize, n: usize, qlen: usize, work: &mut [u32], at: usize)
-    requires { ⌜ Sizes n qlen (now work) × (element < 15) × (element * n * qlen + n * qlen ≤ length (now octets)) × (at + n ≤ length (now work)) ⌝ }
-    ensures { λ _. ⌜ now (work .exit) ≡ written at (tabulate n (flat n qlen (now (octets .entry)) element)) (now (work .entry)) ⌝ }
+// The element at a place of the octets, read into a part of the work words.
+fn read_element(octets: &[u8], element: usize, n: usize, qlen: usize, q: u32, work: &mut [u32], at: usize) -> u32
+    requires { ⌜ Sizes n qlen (now work) × (element < 45) × (element * n * qlen + n * qlen ≤ length (now octets)) × (at + n ≤ length (now work)) ⌝ }
+    ensures { λ r. ⌜ r ≡ coefficientNumber (fitsAt q n qlen (now (octets .entry)) element) ⌝ }
+    ensures { λ r. ⌜ (r ≡ 0 → Placed n at (flat n qlen (now (octets .entry)) element) (now (work .entry)) (now (work .exit))) ⌝ }
 {
     let from = element * n * qlen;
-    let end = from + n * qlen;
     let stop = at + n;
-    decoding::decode(&octets[from..end], qlen, &mut work[at..stop]);
+    judging::read(&octets[from..], qlen, q, &mut work[at..stop])
 }
 
-// One term of total degree k - 1: its coefficient and u_x times the term of total degree k at the same place.
-fn fold_term(
-    octets: &[u8],
-    element: usize,
-    j: usize,
-    n: usize,
-    qlen: usize,
-    q: u32,
-    work: &mut [u32],
-)
-    requires { ⌜ Sizes n qlen (now work) × (element < 15) × (element * n * qlen + n * qlen ≤ length (now octets)) × (j < 5) × (16 ≤ q) × (q < 2147483648) ⌝ }
-    requires { ⌜ InRing q n (slot n (now work) j) × InRing 16 n (part (now work) 0) ⌝ }
-    ensures { λ _. ⌜ Placed n ((2 + j) * n) (λ k. (conv n (slot n (now (work .entry)) j) (part (now (work .entry)) 0) k + flat n qlen (now (octets .entry)) element k) % q) (now (work .entry)) (now (work .exit)) ⌝ }
+// One step of Horner's rule at a part: it becomes itself times a factor, and the next element added. The first element of all is copied.
+fn step(work: &mut [u32], at: usize, factor: usize, next: usize, count: usize, n: usize, q: u32)
+    requires { ⌜ (factor + n ≤ at) × (at + n ≤ next) × (next + n ≤ length (now work)) × (n ≤ 4096) × (16 ≤ q) × (q < 2147483648) ⌝ }
+    requires { ⌜ (0 < count → InRing q n (part (now work) at)) × InRing 16 n (part (now work) factor) ⌝ }
+    ensures { λ _. ⌜ Placed n at (stepped n q count (part (now (work .entry)) at) (part (now (work .entry)) factor) (part (now (work .entry)) next)) (now (work .entry)) (now (work .exit)) ⌝ }
 {
-    load(octets, element, n, qlen, work, 7 * n);
-    let at = (2 + j) * n;
-    products::multiply_add(work, at, 0, 7 * n, n, q, 16);
-    ring::copy(work, at, 7 * n, n);
-}
-
-// The last term of total degree k - 1, y^(k-1): u_y times y^k comes to it as well.
-fn fold_last(
-    octets: &[u8],
-    element: usize,
-    j: usize,
-    n: usize,
-    qlen: usize,
-    q: u32,
-    work: &mut [u32],
-)
-    requires { ⌜ Sizes n qlen (now work) × (element < 15) × (element * n * qlen + n * qlen ≤ length (now octets)) × (j < 4) × (16 ≤ q) × (q < 2147483648) ⌝ }
-    requires { ⌜ InRing q n (slot n (now work) j) × InRing q n (slot n (now work) (j + 1)) × InRing 16 n (part (now work) 0) × InRing 16 n (part (now work) n) ⌝ }
-    ensures { λ _. ⌜ Placed n ((2 + j) * n) (λ k. (conv n (slot n (now (work .entry)) j) (part (now (work .entry)) 0) k + conv n (slot n (now (work .entry)) (j + 1)) (part (now (work .entry)) n) k + flat n qlen (now (octets .entry)) element k) % q) (now (work .entry)) (now (work .exit)) ⌝ }
-{
-    load(octets, element, n, qlen, work, 7 * n);
-    let at = (2 + j) * n;
-    products::multiply_add(work, at, 0, 7 * n, n, q, 16);
-    products::multiply_add(work, at + n, n, 7 * n, n, q, 16);
-    ring::copy(work, at, 7 * n, n);
-}
-
-// The terms of total degree k - 1 from those of k: their coefficients stand from an element of the octets on.
-fn fold_degree(
-    octets: &[u8],
-    from: usize,
-    k: usize,
-    n: usize,
-    qlen: usize,
-    q: u32,
-    work: &mut [u32],
-)
-    requires { ⌜ Sizes n qlen (now work) × (0 < k) × (k ≤ 4) × (from + k ≤ 15) × ((from + k) * n * qlen ≤ length (now octets)) × (16 ≤ q) × (q < 2147483648) ⌝ }
-    requires { ⌜ ((i : ℕ) → i ≤ k → InRing q n (slot n (now work) i)) ⌝ }
-    requires { ⌜ InRing 16 n (part (now work) 0) × InRing 16 n (part (now work) n) ⌝ }
-    ensures { λ _. ⌜ FoldedDegree n q k (λ i. flat n qlen (now (octets .entry)) (from + i)) (now (work .entry)) (now (work .exit)) ⌝ }
-{
-    let mut j = 0;
-    while j + 1 < k {
-        fold_term(octets, from + j, j, n, qlen, q, work);
-        j += 1;
+    if 0 < count {
+        products::multiply_add(work, at, factor, next, n, q, 16);
     }
-    fold_last(octets, from + j, j, n, qlen, q, work);
+    ring::copy(work, at, next, n);
 }
 
-// The terms of the highest total degree, which stand first, into their parts.
-fn load_highest(octets: &[u8], d: usize, n: usize, qlen: usize, work: &mut [u32])
-    requires { ⌜ Sizes n qlen (now work) × (d ≤ 4) × ((d + 1) * n * qlen ≤ length (now octets)) ⌝ }
-    ensures { λ _. ⌜ now (work .exit) ≡ written (2 * n) (decoded qlen ((d + 1) * n) (now (octets .entry))) (now (work .entry)) ⌝ }
+// The row of y^(d - t), into the fourth part.
+fn row(octets: &[u8], d: usize, t: usize, n: usize, qlen: usize, q: u32, work: &mut [u32]) -> u32
+    requires { ⌜ Sizes n qlen (now work) × (d ≤ 8) × (t ≤ d) × (length (now octets) ≡ monomialCount d * n * qlen) × (16 ≤ q) × (q < 2147483648) ⌝ }
+    requires { ⌜ InRing 16 n (part (now work) 0) ⌝ }
+    ensures { λ r. ⌜ r ≡ coefficientNumber (rowFits d (fitsAt q n qlen (now (octets .entry))) t) ⌝ }
+    ensures { λ r. ⌜ (r ≡ 0 → Placed n (3 * n) (λ k. rowOf n d (flat n qlen (now (octets .entry))) (part (now (work .entry)) 0) t k % q) (now (work .entry)) (now (work .exit))) ⌝ }
 {
-    let count = (d + 1) * n;
-    let end = count * qlen;
-    let at = 2 * n;
-    let stop = at + count;
-    decoding::decode(&octets[..end], qlen, &mut work[at..stop]);
-}
-
-// The value of the polynomial of degree d in the octets, into the third part.
-pub fn evaluate(octets: &[u8], d: usize, n: usize, qlen: usize, q: u32, work: &mut [u32])
-    requires { ⌜ Sizes n qlen (now work) × (0 < d) × (d ≤ 4) × (length (now octets) ≡ monomialCount d * n * qlen) × (16 ≤ q) × (q < 2147483648) ⌝ }
-    requires { ⌜ ((m : ℕ) → m < monomialCount d * n → coefficientAt qlen (now octets) m < q) ⌝ }
-    requires { ⌜ InRing 16 n (part (now work) 0) × InRing 16 n (part (now work) n) ⌝ }
-    ensures { λ _. ⌜ ((k : ℕ) → k < n → part (now (work .exit)) (2 * n) k ≡ value n d (flat n qlen (now (octets .entry))) (part (now (work .entry)) 0) (part (now (work .entry)) n) k % q) ⌝ }
-{
-    load_highest(octets, d, n, qlen, work);
-    let mut k = d;
-    let mut from = d + 1;
-    while 0 < k {
-        fold_degree(octets, from, k, n, qlen, q, work);
-        from += k;
-        k -= 1;
+    let mut first = 0;
+    let mut s = 0;
+    while s <= t {
+        let refused = read_element(octets, first + (d - t), n, qlen, q, work, 4 * n);
+        if refused != 0 {
+            return refused;
+        }
+        step(work, 3 * n, 0, 4 * n, s, n, q);
+        first += d + 1 - s;
+        s += 1;
     }
+    0
+}
+
+// The value of the polynomial of degree d in the octets, into the third part, and 0; or 8 where one of its coefficients is not below q.
+pub fn evaluate(octets: &[u8], d: usize, n: usize, qlen: usize, q: u32, work: &mut [u32]) -> u32
+    requires { ⌜ Sizes n qlen (now work) × (d ≤ 8) × (length (now octets) ≡ monomialCount d * n * qlen) × (16 ≤ q) × (q < 2147483648) ⌝ }
+    requires { ⌜ InRing 16 n (part (now work) 0) × InRing 16 n (part (now work) n) ⌝ }
+    ensures { λ r. ⌜ r ≡ fitNumber q (decoded qlen (monomialCount d * n) (now (octets .entry))) ⌝ }
+    ensures { λ r. ⌜ (r ≡ 0 → (k : ℕ) → k < n → part (now (work .exit)) (2 * n) k ≡ value n d (flat n qlen (now (octets .entry))) (part (now (work .entry)) 0) (part (now (work .entry)) n) k % q) ⌝ }
+{
+    let mut t = 0;
+    while t <= d {
+        let refused = row(octets, d, t, n, qlen, q, work);
+        if refused != 0 {
+            return refused;
+        }
+        step(work, 2 * n, n, 3 * n, t, n, q);
+        t += 1;
+    }
+    0
 }

@@ -22,7 +22,7 @@ use Rattle.definitions.proofs.Sums.{every-cong}
 use Rattle.definitions.proofs.Parameters.{Accepted, accepted-set, key-degree-most}
 use Rattle.ring.specs.Work.{part}
 use Rattle.definitions.proofs.Exits.{exit-set, exit-length, exit-refused, exit-accepted}
-use Rattle.secrets.specs.Secrets.{Exact, Valued}
+use Rattle.secrets.specs.Secrets.{ValueInputs, Valued}
 use Rattle.zero_test.specs.Tested.{Tested}
 
 module _ (p : Parameters) (secret public : List ℕ) {refusal : ℕ} {work : List ℕ} (v : Valued p (p .dx) secret public refusal work) where
@@ -72,7 +72,7 @@ module _ (p : Parameters) (secret public : List ℕ) (old : ℕ) (work : List �
         ))
 
   pub is-zero-exact : AcceptedSet p → length secret ≡ secretLength p → length public ≡ publicLength p → length work ≡ workLength p
-      → Exact p (p .dx) secret public work
+      → ValueInputs p (p .dx) secret public work
   unfolding publicLength
   is-zero-exact set s k w =
       let a : Accepted p = accepted-set p set in
@@ -85,7 +85,7 @@ module _ (p : Parameters) (secret public : List ℕ) (old : ℕ) (work : List �
         work-length = w;
       }
 
-  module _ (exact : Exact p (p .dx) secret public work) where
+  module _ (exact : ValueInputs p (p .dx) secret public work) where
     lengths : (eqb (length secret) (secretLength p) && (eqb (length public) (publicLength p) && eqb (length work) (workLength p))) ≡ true
     unfolding publicLength
     lengths =

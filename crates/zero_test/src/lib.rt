@@ -5,14 +5,14 @@
 ghost use mathlib.Core.Path.{_≡_};
 ghost use Rattle.definitions.specs.Calls.{IsZeroExit, isZeroExit};
 ghost use Rattle.parameters.specs.Answers.{setFrom};
-ghost use Rattle.secrets.specs.Secrets.{Exact};
+ghost use Rattle.secrets.specs.Secrets.{ValueInputs};
 ghost use Rattle.zero_test.specs.Tested.{Tested};
 use parameters::Parameters;
 use parameters::refusals;
 
 // The test, after the length test; the work words are left as they come.
 fn tested(p: Parameters, secret: &[u8], public: &[u8], work: &mut [u32], zero: &mut u32) -> u32
-    requires { ⌜ Exact (setFrom p) (p .dx) (now secret) (now public) (now work) ⌝ }
+    requires { ⌜ ValueInputs (setFrom p) (p .dx) (now secret) (now public) (now work) ⌝ }
     ensures { λ r. ⌜ Tested (setFrom p) (now (secret .entry)) (now (public .entry)) r (now (zero .entry)) (now (zero .exit)) ⌝ }
 {
     let refused = secrets::value(p, p.dx as usize, secret, public, work);
@@ -22,7 +22,7 @@ fn tested(p: Parameters, secret: &[u8], public: &[u8], work: &mut [u32], zero: &
     let n = p.n as usize;
     let from = 2 * n;
     let end = from + n;
-    *zero = secrets::vanishes(work, from, end);
+    *zero = ring::vanishes(work, from, end);
     0
 }
 

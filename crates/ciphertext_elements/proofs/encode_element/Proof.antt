@@ -13,7 +13,7 @@ use Rattle.definitions.proofs.Sums.{length-tabulate}
 use Rattle.definitions.proofs.Octets.{length-encoded}
 use Rattle.definitions.proofs.Filling.{length-borrowed}
 use Rattle.ring.specs.Work.{part, written}
-use Rattle.values.proofs.Parts.{putMid-written}
+use Rattle.ring.proofs.Lent.{putMid-written}
 use Rattle.ciphertext_elements.proofs.Ciphertext.{borrowed-element}
 use Rattle.ciphertext_elements.proofs.encode_element.Statement.{statement}
 use Rattle.ciphertext_elements.proofs.encode_element.Tie as tie

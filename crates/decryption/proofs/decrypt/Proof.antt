@@ -8,7 +8,7 @@ use Rattle.definitions.specs.Parameters.{messageLength}
 use Rattle.definitions.specs.Demand3.{AcceptedSet}
 use Rattle.definitions.proofs.Parameters.{accepted-set, key-degree-most, mask-degree-most}
 use Rattle.parameters.specs.Answers.{setFrom}
-use Rattle.secrets.specs.Secrets.{Exact}
+use Rattle.secrets.specs.Secrets.{ValueInputs}
 use Rattle.decryption.proofs.Laws.{decrypt-set, decrypt-secret-length, decrypt-ciphertext-length, decrypt-message-length, decrypt-work-length, decrypt-exact, decrypt-decrypted}
 use Rattle.decryption.proofs.decrypt.Statement.{statement}
 use Rattle.decryption.proofs.decrypt.Tie as tie
@@ -50,7 +50,7 @@ returns-5 c =
 
 exact : (c : tie.Else5) →
     let a = c .before .before .before .before .before .before .before .before .before .before .before .before .before .before .args in
-    Exact (setFrom (a .p)) (a .p .dx + a .p .dr) (a .secret .now) (a .ciphertext .now) (a .work .now)
+    ValueInputs (setFrom (a .p)) (a .p .dx + a .p .dr) (a .secret .now) (a .ciphertext .now) (a .work .now)
 exact c =
     let a = c .before .before .before .before .before .before .before .before .before .before .before .before .before .before .args in
     decrypt-exact (setFrom (a .p)) (a .secret .now) (a .ciphertext .now) (a .message .now) (a .work .now) (accepted (c .before .before .before .before .before .before .before .before))

@@ -65,7 +65,7 @@ returns c =
     let eight : fitNumber (s .args .q) (tabulate 64 (λ k. coefficientAt (s .args .qlen) (s .args .octets .now) (l .m + k))) ≡ 8 = sym (c .before .before .several-at .ensures) ∙ ap readingsNumber (c .enum-told2 .given .1) in
     sym
     (fitNumber-decoded-part (s .args .q) (s .args .qlen) (s .args .octets .now) (l .m) 64 _ inside
-    (fitNumber-refused (s .args .q) _ (omega (arith, eight))))
+    (fitNumber-refused (s .args .q) _ (λ z. omega (arith, eight, z))))
 
 add-m : tie.Need-add-m Inv-loop μ-loop
 add-m c = omega (arith, few (c .before .before .before))

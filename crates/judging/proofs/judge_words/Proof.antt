@@ -37,7 +37,7 @@ returns c =
     let a = c .before .before .before .before .before .before .args in
     let m = c .before .before .before .before .loop .m in
     let eight : fitNumber (a .q) (take 32 (drop m (a .words .now))) ≡ 8 = sym (c .before .before .several-of .ensures) ∙ ap readingsNumber (c .enum-told2 .given .1) in
-    sym (fitNumber-take-part (a .q) (a .words .now) m 32 (fitNumber-refused (a .q) _ (omega (arith, eight))))
+    sym (fitNumber-take-part (a .q) (a .words .now) m 32 (fitNumber-refused (a .q) _ (λ z. omega (arith, eight, z))))
 
 add-m : tie.Need-add-m Inv-loop μ-loop
 add-m c = omega arith

@@ -9,7 +9,7 @@ use borrow.Author.Needs.{needs}
 use Rattle.definitions.specs.Monomials.{value}
 use Rattle.definitions.proofs.Filling.{length-borrowed}
 use Rattle.ring.specs.Work.{part}
-use Rattle.values.specs.Folding.{flat}
+use Rattle.decoding.specs.Elements.{flat}
 use Rattle.key_generation.proofs.Parts.{tail-length, constant-room, constant-placed}
 use Rattle.key_generation.proofs.write_constant.Statement.{statement}
 use Rattle.key_generation.proofs.write_constant.Tie as tie

@@ -7,7 +7,7 @@ use mathlib.Core.Path.{_≡_, sym, _∙_, ap}
 use Rattle.definitions.specs.Sequences.{sum}
 use Rattle.definitions.specs.Parameters.{monomialCount}
 use Rattle.ring.specs.Work.{part}
-use Rattle.values.specs.Folding.{flat}
+use Rattle.decoding.specs.Elements.{flat}
 use Rattle.mask_products.specs.Products.{maskIn, pairTerm, Summed}
 use Rattle.mask_products.proofs.Sums.{count-six, sum-next, sum-none, summed-none, summed-then, summed-inRing, pairTerm-kept, inputs-kept}
 use Rattle.mask_products.proofs.add_element.Statement.{statement}

@@ -5,8 +5,8 @@ use native.Mathlib.Omega.{arith}
 use mathlib.Core.Path.{_≡_, sym, _∙_}
 use borrow.Author.Needs.{needs}
 use lib.ListN.{length}
-use Rattle.values.specs.Folding.{flat}
-use Rattle.values.proofs.Parts.{part-room}
+use Rattle.decoding.specs.Elements.{flat}
+use Rattle.ring.proofs.Lent.{part-room}
 use Rattle.mask_products.proofs.Sums.{count-six, key-room, key-loaded, mask-loaded, summed-written, summed-no-pair, summed-pair}
 use Rattle.mask_products.proofs.add_pair.Statement.{statement}
 use Rattle.mask_products.proofs.add_pair.Tie as tie
@@ -26,8 +26,8 @@ returns c =
 mul-spare : tie.Need-mul-spare
 mul-spare c = omega (arith, c .before .before .before .before .pre .0 .sizes .most)
 
-load-requires : tie.Need-load-requires
-load-requires c κs =
+element-requires : tie.Need-element-requires
+element-requires c κs =
     let s = c .before .before .before .before .before in
     let a = s .args in
     let g = s .pre .0 in (
@@ -52,7 +52,7 @@ multiply-add-requires c κs =
     let s = c .before .before .before .before .before .before .before .before .before in
     let a = s .args in
     let g = s .pre .0 in
-    let load = c .before .before .before .load in
+    let load = c .before .before .before .element in
     let few : a .j * a .n + a .n ≤ 6 * a .n = part-room (a .n) (a .j) 6 (omega (arith, count-six (a .dr) (g .mask-degree), s .pre .2)) in
     let words : length (load .last .1 .1 .1 .1 .0) ≡ 8 * a .n = load .kept .1 .1 .1 .1 .0 ∙ g .sizes .room in (
       (omega arith, omega arith, omega arith, g .sizes .most, g .modulus-least, omega arith, g .modulus-most),
@@ -70,7 +70,7 @@ returns-2 c =
     summed-pair (a .n) (a .q) (a .dx) (a .dr) key (a .m) (a .i) (a .j) (a .work .now)
     (λ e. tested .if1 .left (tested .before .same-monomial .ensures ∙ e))
     (summed-written (a .n) (a .q) (a .j * a .n) (a .work .now) _ _ (key (a .i)) (g .sizes .room) few
-    (c .before .before .before .before .before .before .load .ensures)
+    (c .before .before .before .before .before .before .element .ensures)
     (c .before .before .multiply-add .ensures))
 
 pub add-pair-spec : {M : Type 1} → statement M
@@ -80,7 +80,7 @@ add-pair-spec =
     same-monomial-requires
     returns
     mul-spare
-    load-requires
+    element-requires
     mul-multiply-add
     mul-multiply-add-2
     multiply-add-requires

@@ -8,7 +8,7 @@ use lib.ListN.{length, replicate, length-replicate}
 use borrow.Author.Needs.{needs}
 use Rattle.definitions.proofs.Filling.{length-borrowed}
 use Rattle.ring.specs.Work.{written}
-use Rattle.values.proofs.Parts.{putMid-written}
+use Rattle.ring.proofs.Lent.{putMid-written}
 use Rattle.mask_products.proofs.Sums.{summed-zeros}
 use Rattle.mask_products.proofs.clear_sum.Statement.{statement}
 use Rattle.mask_products.proofs.clear_sum.Tie as tie

@@ -5,7 +5,7 @@ use native.Mathlib.Omega.{arith}
 use mathlib.Core.Path.{_≡_, sym, _∙_, ap}
 use Rattle.definitions.specs.Sequences.{sum}
 use Rattle.definitions.specs.Parameters.{monomialCount}
-use Rattle.values.specs.Folding.{flat}
+use Rattle.decoding.specs.Elements.{flat}
 use Rattle.mask_products.specs.Products.{maskIn, pairTerm, Summed}
 use Rattle.mask_products.proofs.Sums.{sum-none, sum-next, summed-same, summed-then, summed-inRing, summed-start, summed-product, terms-kept, inputs-kept}
 use Rattle.mask_products.proofs.product_at.Statement.{statement}

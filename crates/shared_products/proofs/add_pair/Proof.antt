@@ -5,7 +5,7 @@ use native.Mathlib.Omega.{arith}
 use mathlib.Core.Path.{sym, _∙_}
 use borrow.Author.Needs.{needs}
 use Rattle.definitions.specs.Parameters.{monomialCount}
-use Rattle.values.proofs.Parts.{part-room}
+use Rattle.ring.proofs.Lent.{part-room}
 use Rattle.mask_products.proofs.Sums.{summed-inRing}
 use Rattle.shared_products.specs.Sharing.{keyIn}
 use Rattle.shared_products.proofs.Turns.{summed-written}

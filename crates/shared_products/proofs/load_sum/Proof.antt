@@ -3,7 +3,7 @@
 use Prim.Native.Nat.{_+_, _*_, _≤_}
 use native.Mathlib.Omega.{arith}
 use borrow.Author.Needs.{needs}
-use Rattle.values.proofs.Parts.{part-room}
+use Rattle.ring.proofs.Lent.{part-room}
 use Rattle.shared_products.specs.Sharing.{keyIn}
 use Rattle.shared_products.proofs.Turns.{wrote, sum-written}
 use Rattle.shared_products.proofs.load_sum.Statement.{statement}

@@ -5,7 +5,7 @@ use native.Mathlib.Nat.{mod-lt}
 use native.Mathlib.Omega.{arith}
 use mathlib.Core.Logic.{inl, inr}
 use borrow.Author.Needs.{needs}
-use Rattle.values.proofs.Parts.{part-room}
+use Rattle.ring.proofs.Lent.{part-room}
 use Rattle.shared_products.proofs.Pairs.{cong-sums}
 use Rattle.shared_products.proofs.Turns.{wrote, summed-cong, sums-inRing, sums-stand, sums-multiplied, sums-restored}
 use Rattle.shared_products.proofs.multiply_sums.Statement.{statement}

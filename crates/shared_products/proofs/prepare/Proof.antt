@@ -11,8 +11,8 @@ use Rattle.definitions.specs.Ring.{conv}
 use Rattle.definitions.proofs.Sums.{tabulate-cong}
 use Rattle.definitions.proofs.Ring.{conv-cong}
 use Rattle.ring.specs.Work.{written}
-use Rattle.values.specs.Folding.{flat}
-use Rattle.values.proofs.Parts.{part-room}
+use Rattle.decoding.specs.Elements.{flat}
+use Rattle.ring.proofs.Lent.{part-room}
 use Rattle.mask_products.specs.Products.{maskIn}
 use Rattle.mask_products.proofs.Sums.{count-six, inputs-same}
 use Rattle.shared_products.specs.Sharing.{Holds, Kept}

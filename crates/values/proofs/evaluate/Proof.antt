@@ -1,129 +1,126 @@
--- `evaluate` folds one total degree after the other; at every stage the polynomial has the same value, and at the end it is a constant.
+-- `evaluate` takes a row a turn, one power of y lower each time.
 -- Assumes nothing.
-use Prim.Native.Nat.{ℕ, _+_, _*_, _%_, _≤_, _<_}
-use native.Mathlib.Nat.{mul-le-mul-right}
+use Prim.Native.Nat.{ℕ, suc, _+_, _-_, _*_, _%_, _≤_, _<_}
 use native.Mathlib.Omega.{arith}
-use mathlib.Core.Path.{_≡_, refl, sym, ap, _∙_, subst}
-use mathlib.Core.List.{List}
-use lib.ListN.{length, getD}
+use mathlib.Core.Path.{_≡_, sym, ap, _∙_}
+use borrow.Author.Needs.{needs}
 use Rattle.definitions.specs.Parameters.{monomialCount}
 use Rattle.definitions.specs.Ring.{InRing}
-use Rattle.definitions.specs.Octets.{decoded}
-use Rattle.definitions.proofs.Octets.{length-decoded}
+use Rattle.definitions.specs.Octets.{decoded, coefficientsFit}
 use Rattle.ring.specs.Work.{part}
-use Rattle.ring.proofs.Work.{getD-written-before, length-written}
-use Rattle.values.specs.Folding.{Sizes}
-use Rattle.values.proofs.Folding.{degree-lt-count}
-use Rattle.values.proofs.Stages.{Stage, highest-loaded, stage-first, stage-turn, stage-last, stage-elements, count-most, value-cong-secret}
+use Rattle.decoding.specs.Elements.{flat}
+use Rattle.judging.specs.Reading.{fitNumber}
+use Rattle.judging.proofs.Judged.{number-zero, number-fits, number-same}
+use Rattle.values.specs.Horner.{rowOf, nested, fitsAt, rowFits, Placed}
+use Rattle.values.proofs.Horner.{nested-value, rows-all, rows-not}
+use Rattle.values.proofs.Loops.{sizes-kept, row-cong, decoded-fits, HornerAt, hornerAt-none, hornerAt-ready, hornerAt-next, hornerAt-all}
 use Rattle.values.proofs.evaluate.Statement.{statement}
 use Rattle.values.proofs.evaluate.Tie as tie
 
 abbrev Inv-loop : tie.InvT-loop
-Inv-loop octets d n qlen q work₀ k₀ from₀ work k from = Stage n q qlen d octets work₀ k from work
+Inv-loop octets d n qlen q work₀ t₀ work t =
+    (t ≤ d + 1) × HornerAt n q (2 * n) n (rowOf n d (flat n qlen octets) (part work₀ 0)) (rowFits d (fitsAt q n qlen octets)) work₀ t work
 
 abbrev μ-loop : tie.MeasureT-loop
-μ-loop octets d n qlen q work₀ k₀ from₀ work k from = k
+μ-loop octets d n qlen q work₀ t₀ work t = d + 1 - t
 
-most : (d : ℕ) → d ≤ 4 → monomialCount d ≤ 15
-most d l = unfold monomialCount in count-most d 4 l
+-- ---- places
 
--- so many elements lie in the octets
-in-octets : (n qlen d m : ℕ) → m ≤ monomialCount d → m * n * qlen ≤ monomialCount d * n * qlen
-in-octets n qlen d m l = mul-le-mul-right qlen (mul-le-mul-right n l)
+abbrev start : tie.In-loop Inv-loop μ-loop → tie.Start Inv-loop μ-loop
+start c = c .before .before .before .before
 
-load-highest-requires : tie.Need-load-highest-requires Inv-loop μ-loop
-load-highest-requires c κs =
-    let a = c .before .before .before .args in
-    let p = c .before .before .before .pre in
-    (p .0 .0, p .0 .2, omega (arith, in-octets (a .n) (a .qlen) (a .d) (a .d + 1) (omega (arith, degree-lt-count (a .d))), p .0 .3))
+abbrev turn : tie.Else1 Inv-loop μ-loop → tie.In-loop Inv-loop μ-loop
+turn c = c .before .before .before .before .before
 
-add-from : tie.Need-add-from Inv-loop μ-loop
-add-from c = omega (arith, c .before .before .before .before .before .before .pre .0 .2)
+abbrev passed : tie.After-slice-known3 Inv-loop μ-loop → tie.Else1 Inv-loop μ-loop
+passed c = c .before .before .before .before
 
-abbrev loaded : tie.After-load-highest Inv-loop μ-loop → List ℕ
-loaded c = c .load-highest .last .1 .1 .1 .1 .0
-
--- loading leaves the secret and the length
-as-long : (c : tie.After-load-highest Inv-loop μ-loop) → length (loaded c) ≡ length (c .before .before .before .before .args .work .now)
-as-long c = c .load-highest .kept .1 .1 .1 .1 .0
-
-secret : (c : tie.After-load-highest Inv-loop μ-loop) → (i : ℕ) → i < 2 * c .before .before .before .before .args .n
-    → getD (loaded c) i 0 ≡ getD (c .before .before .before .before .args .work .now) i 0
-secret c i l =
-    let a = c .before .before .before .before .args in
-    ap (λ (w : List ℕ). getD w i 0) (c .load-highest .ensures)
-    ∙ getD-written-before (2 * a .n) _ (a .work .now) (omega (arith, c .before .before .before .before .pre .0 .0 .room)) l
+-- ---- needs
 
 loop-holds : tie.Need-loop-holds Inv-loop μ-loop
-loop-holds c =
-    let a = c .before .before .before .before .before .before .args in
-    let p = c .before .before .before .before .before .before .pre in
-    let w : List ℕ = loaded (c .before .before) in
-    stage-first (a .n) (a .q) (a .qlen) (a .d) (a .octets .now) w (p .1 .0)
-    (highest-loaded (a .n) (a .q) (a .qlen) (a .d) (a .octets .now) w (a .work .now) (p .0 .0 .room) (p .0 .2) (c .before .before .load-highest .ensures))
+loop-holds c = (omega arith, hornerAt-none)
 
-fold-degree-requires : tie.Need-fold-degree-requires Inv-loop μ-loop
-fold-degree-requires c κs =
-    let a = c .before .before .before .before .before .before .before .before .before .args in
-    let p = c .before .before .before .before .before .before .before .before .before .pre in
-    let l = c .before .before .before .before .before in
-    let s = c .before .before .loop .inv in
-    let k : ℕ = c .before .before .loop .k in
-    let from : ℕ = c .before .before .loop .from in
-    let w : List ℕ = c .before .before .loop .work in
-    let within : from + k ≤ monomialCount (a .d) = stage-elements (a .n) (a .q) (a .qlen) (a .d) (a .octets .now) (loaded l) (p .1 .0) k from w s (c .before .loop-test .taken) in
-    let same : (i : ℕ) → i < 2 * a .n → getD w i 0 ≡ getD (a .work .now) i 0 = λ i h. s .secret i h ∙ secret l i h in (
-      (
-        record { places = p .0 .0 .places; most = p .0 .0 .most; octets-least = p .0 .0 .octets-least; octets-most = p .0 .0 .octets-most; room = s .as-long ∙ as-long l ∙ p .0 .0 .room },
-        c .before .loop-test .taken,
-        omega (arith, s .degree, p .0 .2),
-        omega (arith, most (a .d) (p .0 .2)),
-        omega (arith, in-octets (a .n) (a .qlen) (a .d) (from + k) within, p .0 .3),
-        p .0 .4,
-        p .0 .5,
-      ),
-      (
-        s .ring,
-        ((λ m h. rw (same (0 + m) (omega arith)) (p .1 .1 .0 m h)), (λ m h. rw (same (a .n + m) (omega arith)) (p .1 .1 .1 m h))),
-      ),
+-- u_x is as it was
+same-x : (c : tie.In-loop Inv-loop μ-loop) (k : ℕ) → k < start c .args .n → part (c .before .loop .work) 0 k ≡ part (start c .args .work .now) 0 k
+same-x c k l = c .before .loop .inv .1 .before (0 + k) (omega arith)
+
+row-requires : tie.Need-row-requires Inv-loop μ-loop
+row-requires c κs =
+    let p = start (c .before) .pre in (
+      (sizes-kept (p .0 .0) (c .before .before .loop .inv .1 .as-long), p .0 .1, c .before .loop-test .taken, p .0 .2, p .0 .3, p .0 .4),
+      λ k l. rw (same-x (c .before) k l) (p .1 .0 k l),
     )
 
-add-from-2 : tie.Need-add-from-2 Inv-loop μ-loop
-add-from-2 c =
-    let a = c .before .before .before .before .before .before .before .before .before .before .before .before .args in
-    let p = c .before .before .before .before .before .before .before .before .before .before .before .before .pre in
-    let s = c .before .before .before .before .before .loop .inv in
-    omega (arith, stage-elements (a .n) (a .q) (a .qlen) (a .d) (a .octets .now) _ (p .1 .0) _ _ _ s (c .before .before .before .before .loop-test .taken), most (a .d) (p .0 .2))
+returns : tie.Need-returns Inv-loop μ-loop
+unfolding fitNumber
+returns c =
+    let l : tie.In-loop Inv-loop μ-loop = c .before .before .before .before .before in
+    let a = start l .args in
+    let fits = fitsAt (a .q) (a .n) (a .qlen) (a .octets .now) in (
+      number-same (rowFits (a .d) fits (l .before .loop .t)) (coefficientsFit (a .q) (decoded (a .qlen) (monomialCount (a .d) * a .n) (a .octets .now)))
+          (c .before .before .before .row .ensures .0) (c .if1 .taken)
+          (λ f. decoded-fits (a .q) (a .n) (a .qlen) (a .octets .now) (monomialCount (a .d)) ∙ rows-not (a .d) fits (l .before .loop .t) (l .loop-test .taken) f),
+      λ z. absurd (c .if1 .taken z),
+    )
 
-sub-k : tie.Need-sub-k Inv-loop μ-loop
-sub-k c = c .before .before .before .before .loop-test .taken
+-- the row is taken
+taken : (c : tie.Else1 Inv-loop μ-loop) → let a = start (turn c) .args in
+    let l = turn c .before .loop in
+    Placed (a .n) (3 * a .n) (λ k. rowOf (a .n) (a .d) (flat (a .n) (a .qlen) (a .octets .now)) (part (l .work) 0) (l .t) k % a .q) (l .work) (c .before .before .before .row .last .1 .1 .1 .1 .1 .1 .0)
+taken c = c .before .before .before .row .ensures .1 (c .if1 .left)
+
+step-requires : tie.Need-step-requires Inv-loop μ-loop
+step-requires c κs =
+    let p = start (turn (c .before)) .pre in
+    let l = turn (c .before) .before .loop .inv .1 in
+    let long = taken (c .before) .as-long ∙ l .as-long ∙ p .0 .0 .room in (
+      (omega arith, omega arith, omega (arith, long), p .0 .0 .most, p .0 .3, p .0 .4),
+      hornerAt-ready (omega arith, omega arith) l (taken (c .before)) (omega (arith, p .0 .3)) (p .1 .1),
+    )
+
+add-t : tie.Need-add-t Inv-loop μ-loop
+add-t c = omega (arith, turn (passed c) .loop-test .taken, start (turn (passed c)) .pre .0 .1)
 
 loop-less : tie.Need-loop-less Inv-loop μ-loop
-loop-less c = omega (arith, c .before .before .before .before .loop-test .taken)
+loop-less c = omega (arith, turn (passed c) .loop-test .taken)
 
 loop-again : tie.Need-loop-again Inv-loop μ-loop
 loop-again c =
-    let a = c .before .before .before .before .before .before .before .before .before .before .before .before .args in
-    let p = c .before .before .before .before .before .before .before .before .before .before .before .before .pre in
-    let l = c .before .before .before .before .before .loop in
-    stage-turn (a .n) (a .q) (a .qlen) (a .d) (a .octets .now) _ (p .1 .0) (l .k) (l .from) (l .work) _ (omega (arith, p .0 .4))
-    (c .before .before .before .before .loop-test .taken) (l .inv) (c .before .before .fold-degree .ensures) (c .before .before .fold-degree .kept .1 .1 .1 .1 .1 .1 .0)
+    let l = turn (passed c) in
+    let a = start l .args in
+    let r = l .before .loop in (
+      omega (arith, l .loop-test .taken),
+      hornerAt-next (omega arith, omega arith) (r .inv .1) (taken (passed c))
+          (number-fits (rowFits (a .d) (fitsAt (a .q) (a .n) (a .qlen) (a .octets .now)) (r .t)) (sym (passed c .before .before .before .row .ensures .0) ∙ passed c .if1 .left))
+          (λ k m. ap (λ (x : ℕ). x % a .q) (row-cong (a .n) (a .d) (flat (a .n) (a .qlen) (a .octets .now)) (r .t) (same-x l) k m)) (c .before .before .step .ensures),
+    )
 
-same-length : tie.Need-same-length Inv-loop μ-loop
-same-length c = c .before .loop .inv .as-long ∙ as-long (c .before .before .before .before)
-
-returns : tie.Need-returns Inv-loop μ-loop
-returns c k l =
-    let a = c .before .before .before .before .before .before .before .before .args in
-    let p = c .before .before .before .before .before .before .before .before .pre in
-    let h = c .before .before .before .before in
-    let none : c .before .loop .k ≡ 0 = omega (arith, c .loop-test .left) in
-    let s : Stage (a .n) (a .q) (a .qlen) (a .d) (a .octets .now) (loaded h) 0 (c .before .loop .from) (c .before .loop .work) =
-    subst (λ (x : ℕ). Stage (a .n) (a .q) (a .qlen) (a .d) (a .octets .now) (loaded h) x (c .before .loop .from) (c .before .loop .work)) none (c .before .loop .inv) in
-    stage-last (a .n) (a .q) (a .qlen) (a .d) (a .octets .now) (loaded h) (p .1 .0) (c .before .loop .from) (c .before .loop .work) s k l
-    ∙ ap (λ (v : ℕ). v % a .q) (value-cong-secret (a .n) (a .d) _ (λ i u. secret h (0 + i) (omega arith)) (λ i u. secret h (a .n + i) (omega arith)) k)
+returns-2 : tie.Need-returns-2 Inv-loop μ-loop
+unfolding fitNumber nested
+returns-2 c =
+    let a = c .before .before .before .before .args in
+    let l = c .before .loop in
+    let all : l .t ≡ suc (a .d) = omega (arith, l .inv .0, c .loop-test .left) in
+    let fits = fitsAt (a .q) (a .n) (a .qlen) (a .octets .now) in (
+      number-zero (decoded-fits (a .q) (a .n) (a .qlen) (a .octets .now) (monomialCount (a .d)) ∙ rows-all (a .d) fits (rw all at (l .inv .1 .fit))),
+      λ z k m. hornerAt-all all (l .inv .1) .placed k m ∙ ap (λ (x : ℕ). x % a .q) (nested-value (a .n) (a .d) (flat (a .n) (a .qlen) (a .octets .now)) (part (a .work .now) 0) (part (a .work .now) (a .n)) m),
+    )
 
 pub evaluate-spec : {M : Type 1} → statement M
 evaluate-spec =
     tie.close
-    (tie.spec Inv-loop μ-loop load-highest-requires add-from loop-holds fold-degree-requires add-from-2 sub-k loop-less loop-again same-length returns)
+    (tie.spec
+    Inv-loop
+    μ-loop
+    loop-holds
+    row-requires
+    (λ c. search needs)
+    returns
+    (λ c. search needs)
+    (λ c. search needs)
+    step-requires
+    add-t
+    loop-less
+    loop-again
+    (λ c. c .before .loop .inv .1 .as-long)
+    returns-2)

@@ -7,7 +7,7 @@ use lib.ListN.{replicate}
 use Rattle.definitions.specs.Demand3.{AcceptedSet}
 use Rattle.definitions.proofs.Parameters.{accepted-set, key-degree-most}
 use Rattle.parameters.specs.Answers.{setFrom}
-use Rattle.secrets.specs.Secrets.{Exact}
+use Rattle.secrets.specs.Secrets.{ValueInputs}
 use Rattle.zero_test.proofs.Laws.{is-zero-set, is-zero-secret-length, is-zero-public-length, is-zero-work-length, is-zero-exact, is-zero-tested}
 use Rattle.zero_test.proofs.is_zero.Statement.{statement}
 use Rattle.zero_test.proofs.is_zero.Tie as tie
@@ -42,7 +42,7 @@ returns-4 c =
 
 exact : (c : tie.Else4) →
     let a = c .before .before .before .before .before .before .before .before .before .before .before .args in
-    Exact (setFrom (a .p)) (a .p .dx) (a .secret .now) (a .public .now) (a .work .now)
+    ValueInputs (setFrom (a .p)) (a .p .dx) (a .secret .now) (a .public .now) (a .work .now)
 exact c =
     let a = c .before .before .before .before .before .before .before .before .before .before .before .args in
     is-zero-exact (setFrom (a .p)) (a .secret .now) (a .public .now) (a .zero .now) (a .work .now) (accepted (c .before .before .before .before .before .before))

@@ -1,4 +1,4 @@
--- `half_padded` judges the bits of the half past those of n coefficients.
+-- `half_bits_clear` judges the bits of the half past those of n coefficients.
 -- Assumes nothing.
 use Prim.Native.Nat.{ℕ, _+_, _-_, _*_, _≤_}
 use mathlib.Core.Path.{_≡_, sym, ap₂, _∙_}
@@ -12,8 +12,8 @@ use Rattle.parameters.proofs.Bounds.{smallBits-within}
 use Rattle.packing.specs.Fields.{paddingNumber}
 use Rattle.packing.proofs.Unused.{paddingNumber-passed, paddingNumber-refused}
 use Rattle.secrets.specs.Secrets.{half}
-use Rattle.secrets.proofs.half_padded.Statement.{statement}
-use Rattle.secrets.proofs.half_padded.Tie as tie
+use Rattle.secrets.proofs.half_bits_clear.Statement.{statement}
+use Rattle.secrets.proofs.half_bits_clear.Tie as tie
 
 mul-used : tie.Need-mul-used
 mul-used c =
@@ -37,8 +37,8 @@ returns c = sym (paddingNumber-refused _ _ (λ z. c .if1 .taken (judged (c .befo
 returns-2 : tie.Need-returns-2
 returns-2 c = sym (paddingNumber-passed _ _ (sym (judged (c .before)) ∙ c .if1 .left))
 
-pub half-padded-spec : {M : Type 1} → statement M
-half-padded-spec =
+pub half-bits-clear-spec : {M : Type 1} → statement M
+half-bits-clear-spec =
     tie.close
     (tie.spec
     (λ c κs. search needs)

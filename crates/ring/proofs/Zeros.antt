@@ -1,11 +1,10 @@
 -- Why looking at each word in turn tells whether all are 0.
 --
---   every-false      a test that fails at one place does not hold at every place
 --   vanishes-..      a word that is not 0; and the end, where none was found
 -- Assumes nothing.
 use Prim.Native.Nat.{ℕ, _+_, _-_, _≤_, _<_}
-use mathlib.Core.Path.{_≡_, refl, sym, ap, _∙_}
-use mathlib.Core.Bool.{Bool, true, false, cond}
+use mathlib.Core.Path.{_≡_, sym, ap, _∙_}
+use mathlib.Core.Bool.{cond}
 use mathlib.Core.List.{List}
 use native.Mathlib.Decide.{ℕ-discrete}
 use native.Mathlib.Omega.{arith}
@@ -13,15 +12,8 @@ use borrow.Author.Tests.{eq-eqb, ne-eqb}
 use lib.Dec.{eqb}
 use lib.ListN.{getD}
 use Rattle.definitions.specs.Sequences.{every}
-use Rattle.definitions.proofs.Sums.{every-true, every-at}
+use Rattle.definitions.proofs.Sums.{every-true, every-false}
 use Rattle.ring.specs.Work.{part}
-
-pub every-false : (n : ℕ) (f : ℕ → Bool) {k : ℕ} → k < n → f k ≡ false → every n f ≡ false
-every-false n f {k} l e = go (every n f) refl
-  where
-    go : (t : Bool) → every n f ≡ t → every n f ≡ false
-    go false h = h
-    go true h = let z : f k ≡ true = every-at n f h l in cc
 
 module _ (work : List ℕ) (from end : ℕ) where
   abbrev pub ZeroTo : ℕ → Type 0

@@ -1,4 +1,4 @@
--- `load` decodes the element's octets into a part of the work words.
+-- `decoding::element` decodes the element's octets into a part of the work words.
 -- Assumes nothing.
 use Prim.Native.Nat.{ℕ, _+_, _-_, _*_, _≤_}
 use native.Mathlib.Nat.{mul-le-mul}
@@ -11,13 +11,14 @@ use Rattle.definitions.specs.Octets.{decoded}
 use Rattle.definitions.proofs.Octets.{length-decoded}
 use Rattle.definitions.proofs.Filling.{length-borrowed}
 use Rattle.ring.specs.Work.{written}
-use Rattle.values.proofs.Parts.{putMid-written, decoded-element}
-use Rattle.values.proofs.load.Statement.{statement}
-use Rattle.values.proofs.load.Tie as tie
+use Rattle.ring.proofs.Lent.{putMid-written}
+use Rattle.decoding.proofs.Elements.{decoded-element}
+use Rattle.decoding.proofs.element.Statement.{statement}
+use Rattle.decoding.proofs.element.Tie as tie
 
 mul-from : tie.Need-mul-from
 mul-from c =
-    let few : c .before .before .args .element ≤ 15 = omega arith in
+    let few : c .before .before .args .element ≤ 45 = omega arith in
     let most : c .before .before .args .n ≤ 4096 = omega arith in
     omega (arith, mul-le-mul few most)
 
@@ -42,8 +43,8 @@ returns c =
     putMid-written (a .at) (a .n) (a .work .now) _ (ap length given ∙ length-decoded _ _ _)
     ∙ ap (λ (l : List ℕ). written (a .at) l (a .work .now)) (given ∙ decoded-element (a .qlen) (a .n) (a .element) (a .octets .now) (p .2))
 
-pub load-spec : {M : Type 1} → statement M
-load-spec =
+pub element-spec : {M : Type 1} → statement M
+element-spec =
     tie.close
     (tie.spec
     mul-from

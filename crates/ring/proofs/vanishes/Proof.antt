@@ -2,9 +2,9 @@
 -- Assumes nothing.
 use Prim.Native.Nat.{ℕ, _-_, _≤_}
 use native.Mathlib.Omega.{arith}
-use Rattle.secrets.proofs.Zeros.{ZeroTo, zeroTo-more, vanishes-all, vanishes-not}
-use Rattle.secrets.proofs.vanishes.Statement.{statement}
-use Rattle.secrets.proofs.vanishes.Tie as tie
+use Rattle.ring.proofs.Zeros.{ZeroTo, zeroTo-more, vanishes-all, vanishes-not}
+use Rattle.ring.proofs.vanishes.Statement.{statement}
+use Rattle.ring.proofs.vanishes.Tie as tie
 
 abbrev Inv-loop : tie.InvT-loop
 Inv-loop work from end i₀ i = (from ≤ i) × ZeroTo work from end i
