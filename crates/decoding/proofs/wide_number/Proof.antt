@@ -18,7 +18,7 @@ returns-2 : tie.Need-returns-2
 returns-2 c =
     let s : tie.After-shared-slice-known = search needs in
     let a = s .before .args in
-    rw (shl-octets (a .len) 32 (omega arith), c .before .number .ensures)
+    rw (shl-octets (a .len) 32 (omega arith), c .before .four .ensures)
     (sym (numberOf-four (a .len) (a .at) (a .octets .now) (λ i h. s .shared-slice-known .given i .fits) (omega arith) (omega arith)))
 
 pub wide-number-spec : {M : Type 1} → statement M
