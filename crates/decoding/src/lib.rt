@@ -39,7 +39,7 @@ pub fn number(octets: &[u8], at: usize, len: usize) -> u32
     three + wide(octets[at + 3]) * 16777216
 }
 
-// Four octets, read at once.
+// Four octets: a function of its own, since the compiler then makes one read of the four, before `wide_number` cuts some off.
 fn four(octets: &[u8], at: usize) -> u32
     requires { ⌜ at + 4 ≤ length (now octets) ⌝ }
     ensures { λ r. ⌜ r ≡ numberOf (take 4 (drop at (now (octets .entry)))) ⌝ }

@@ -1,21 +1,21 @@
 -- Why writing octet by octet gives a number's octets: each octet has 256 times the weight of the one before it.
 --
 --   pair-..                        the number of two words: its weight as a shift makes it, and that 64 bits hold it
---   octetsOf-snoc, octetsOf-add    the octets of a number with one more, or with some more; octetsOf-low: what lies above does not show
+--   octetsOf-..                    the octets of a number with some more; of one that stands above another; the first of them
 --   stored-..                      a list with some octets of a number stored from a place on; eight of them as four and four
---   encoded-snoc, encode-..        the octets of one word more;  a turn, of one word or of two, and the end of a loop that stores them
+--   EncodedTo, encode-..           the words before a place are encoded: a turn that stores one word or two, and the loop's end
 -- Assumes nothing.
-use Prim.Native.Nat.{ℕ, zero, suc, _+_, _-_, _*_, _/_, _%_, _^_, _≤_, _<_}
+use Prim.Native.Nat.{ℕ, zero, suc, _+_, _*_, _/_, _%_, _^_, _≤_, _<_}
 use mathlib.Core.Path.{_≡_, refl, sym, ap, _∙_}
 use mathlib.Core.List.{List, [], _∷_, _++_, append-assoc, append-nil}
-use native.Mathlib.Nat.{add-zero, zero-add, add-suc, suc-add, mul-assoc, mul-suc, mul-le-mul, pow-succ', pow-le-pow-right, div-one, div-div-eq-div-mul, add-mul-div-left, div-eq-of-lt, mod-add-div, mod-lt, le-of-eq}
-use native.Mathlib.Numerals.{add-one}
+use native.Mathlib.Nat.{zero-add, suc-add, one-mul, mul-assoc, mul-suc, mul-le-mul, pow-succ', pow-le-pow-right, div-one, div-div-eq-div-mul, add-mul-div-left, div-eq-of-lt, mod-add-div, mod-lt, le-of-eq}
 use native.Mathlib.Omega.{arith}
-use lib.ListN.{length, getD, take, drop, set, length-append, take-append-drop}
-use lib.Seq.{take-all, take-suc, drop-cons, length-take-le, set-at, take-at, drop-append-add, drop-drop}
+use lib.ListN.{length, getD, take, drop, set}
+use lib.Seq.{take-all, take-add, drop-cons, sets}
 use Rattle.definitions.specs.Sequences.{joined}
 use Rattle.definitions.specs.Octets.{octetsOf, encoded}
-use Rattle.definitions.proofs.Octets.{length-octetsOf, encoded-append, place-end}
+use Rattle.definitions.proofs.Filling.{stores, next-places, put-front, put-drop}
+use Rattle.definitions.proofs.Octets.{length-octetsOf, encoded-append}
 use Rattle.definitions.proofs.Powers.{shl-octets, weight-pos}
 
 -- ---- two words in 64 bits
@@ -42,14 +42,7 @@ module _ (len : ℕ) (few : len ≤ 4) where
 
 -- ---- the octets of a number
 
-pub octetsOf-snoc : (k x : ℕ) → octetsOf (suc k) x ≡ octetsOf k x ++ (x / 256 ^ k % 256 ∷ [])
-unfolding octetsOf
-octetsOf-snoc zero x = rw (div-one x)
-octetsOf-snoc (suc k) x =
-    let e : x / 256 ^ suc k ≡ x / 256 / 256 ^ k = rw (pow-succ' 256 k) (sym (div-div-eq-div-mul x 256 (256 ^ k))) in
-    rw e (ap (λ (r : List ℕ). x % 256 ∷ r) (octetsOf-snoc k (x / 256)))
-
-pub octetsOf-add : (a b x : ℕ) → octetsOf (a + b) x ≡ octetsOf a x ++ octetsOf b (x / 256 ^ a)
+octetsOf-add : (a b x : ℕ) → octetsOf (a + b) x ≡ octetsOf a x ++ octetsOf b (x / 256 ^ a)
 unfolding octetsOf
 octetsOf-add zero b x = rw (zero-add b, div-one x)
 octetsOf-add (suc a) b x =
@@ -66,7 +59,7 @@ octetsOf-above (suc a) x y =
     let high : (x + 256 ^ suc a * y) / 256 ≡ x / 256 + 256 ^ a * y = omega arith in
     rw (low, high) (ap (λ (r : List ℕ). x % 256 ∷ r) (octetsOf-above a (x / 256) y))
 
-pub octetsOf-low : (a x : ℕ) → octetsOf a (x % 256 ^ a) ≡ octetsOf a x
+octetsOf-low : (a x : ℕ) → octetsOf a (x % 256 ^ a) ≡ octetsOf a x
 octetsOf-low a x =
     let whole : x % 256 ^ a + 256 ^ a * (x / 256 ^ a) ≡ x = mod-add-div x (256 ^ a) in
     sym (octetsOf-above a (x % 256 ^ a) (x / 256 ^ a)) ∙ ap (octetsOf a) whole
@@ -79,131 +72,113 @@ octetsOf-pair a x y z e =
     let low : octetsOf a x ≡ octetsOf a y = rw (e, octetsOf-above a (y % 256 ^ a) z) (octetsOf-low a y) in
     rw (octetsOf-add a a x, low, high)
 
+octetsOf-take : (k len x : ℕ) → k ≤ len → take k (octetsOf len x) ≡ octetsOf k x
+unfolding octetsOf
+octetsOf-take zero len x h = refl
+octetsOf-take (suc k) zero x h = let z : ⊥ = omega arith in absurd z
+octetsOf-take (suc k) (suc len) x h = ap (λ (r : List ℕ). x % 256 ∷ r) (octetsOf-take k len (x / 256) (omega arith))
+
 -- ---- octets stored
 
 -- a list with the first k octets of x from place at on
 abbrev pub stored : ℕ → ℕ → ℕ → List ℕ → List ℕ
 stored at k x l = take at l ++ (octetsOf k x ++ drop (at + k) l)
 
-stored-front : (at k x : ℕ) (l : List ℕ) → at + k ≤ length l → length (take at l ++ octetsOf k x) ≡ at + k
-stored-front at k x l h =
-    omega (arith, length-append (take at l) (octetsOf k x), length-octetsOf k x, length-take-le at l (omega arith))
-
-stored-next : (at k x : ℕ) (l r : List ℕ) → at + suc k ≤ length l → r ≡ stored at k x l → set r (at + k) (x / 256 ^ k % 256) ≡ stored at (suc k) x l
-stored-next at k x l r h e =
-    let inside : at + k < length l = omega arith in
-    rw (e, drop-cons l (at + k) 0 inside, ← append-assoc (take at l) (octetsOf k x) (getD l (at + k) 0 ∷ drop (suc (at + k)) l))
-    (set-at (take at l ++ octetsOf k x) (getD l (at + k) 0) (drop (suc (at + k)) l) (x / 256 ^ k % 256) (at + k) (stored-front at k x l (omega arith))
-    ∙ rw (octetsOf-snoc k x, add-suc at k) (simp append-assoc))
-
 module _ (at x : ℕ) (l : List ℕ) where
-  pub stored-none : l ≡ stored at 0 x l
+  store-all : (k : ℕ) → at + k ≤ length l → sets l at (octetsOf k x) ≡ stored at k x l
+  store-all k h = stores (octetsOf k x) l at (length-octetsOf k x) h
+
+  -- as code stores them
+  pub stored-none : at + 0 ≤ length l → l ≡ stored at 0 x l
   unfolding octetsOf
-  stored-none = rw (add-zero at) (sym (take-append-drop at l))
+  stored-none h = store-all 0 h
 
   pub stored-one : at + 1 ≤ length l → set l at (x % 256) ≡ stored at 1 x l
-  stored-one h =
-      let e : set l (at + 0) (x / 1 % 256) ≡ stored at 1 x l = stored-next at 0 x l l h stored-none in
-      rw (add-zero at, div-one x) at e
+  unfolding octetsOf
+  stored-one h = store-all 1 h
 
   pub stored-two : at + 2 ≤ length l → set (set l at (x % 256)) (at + 1) (x / 256 % 256) ≡ stored at 2 x l
-  stored-two h = stored-next at 1 x l _ h (stored-one (omega arith))
+  unfolding octetsOf
+  stored-two h = rw (next-places at .0) (store-all 2 h)
 
   pub stored-three : at + 3 ≤ length l
       → set (set (set l at (x % 256)) (at + 1) (x / 256 % 256)) (at + 2) (x / 65536 % 256) ≡ stored at 3 x l
-  stored-three h = stored-next at 2 x l _ h (stored-two (omega arith))
+  unfolding octetsOf
+  stored-three h =
+      let third : x / 65536 ≡ x / 256 / 256 = omega arith in
+      rw (next-places at .0, next-places at .1, third) (store-all 3 h)
 
   pub stored-four : at + 4 ≤ length l
       → set (set (set (set l at (x % 256)) (at + 1) (x / 256 % 256)) (at + 2) (x / 65536 % 256)) (at + 3) (x / 16777216 % 256) ≡ stored at 4 x l
-  stored-four h = stored-next at 3 x l _ h (stored-three (omega arith))
+  unfolding octetsOf
+  stored-four h =
+      let third : x / 65536 ≡ x / 256 / 256 = omega arith in
+      let fourth : x / 16777216 ≡ x / 256 / 256 / 256 = omega arith in
+      rw (next-places at .0, next-places at .1, next-places at .2, third, fourth) (store-all 4 h)
 
--- what stands up to the end of the stored octets
-pub take-stored : (at k x : ℕ) (l : List ℕ) → at + k ≤ length l → take (at + k) (stored at k x l) ≡ take at l ++ octetsOf k x
-take-stored at k x l h =
-    rw (← append-assoc (take at l) (octetsOf k x) (drop (at + k) l))
-    (take-at (take at l ++ octetsOf k x) (drop (at + k) l) (at + k) (stored-front at k x l h))
+module _ (at len x : ℕ) (l : List ℕ) {r : List ℕ} (room : at + len ≤ length l) (e : r ≡ stored at len x l) where
+  -- what stands up to the end of the first k octets
+  pub take-stored : (k : ℕ) → k ≤ len → take (at + k) r ≡ take at l ++ octetsOf k x
+  take-stored k h = rw (octetsOf-take k len x h) at (put-front l (octetsOf len x) at len (omega arith) (length-octetsOf len x) e k h)
 
--- some octets, then more of them
-stored-add : (at a b x : ℕ) (l : List ℕ) {r : List ℕ} → at + a + b ≤ length l → r ≡ stored at a x l → stored (at + a) b (x / 256 ^ a) r ≡ stored at (a + b) x l
-stored-add at a b x l {r} h e =
-    let front : take (at + a) r ≡ take at l ++ octetsOf a x = ap (take (at + a)) e ∙ take-stored at a x l (omega arith) in
-    let rest : drop (at + a + b) r ≡ drop (at + a + b) l
-    = ap (drop (at + a + b)) (e ∙ sym (append-assoc (take at l) (octetsOf a x) (drop (at + a) l)))
-    ∙ rw (stored-front at a x l (omega arith)) at (drop-append-add (take at l ++ octetsOf a x) (drop (at + a) l) b)
-    ∙ drop-drop b (at + a) l in
-    let place : at + (a + b) ≡ at + a + b = omega arith in
-    rw (front, rest, octetsOf-add a b x, place) (simp append-assoc)
+  -- some octets, then more of them
+  stored-add : (more : ℕ) → stored (at + len) more (x / 256 ^ len) r ≡ stored at (len + more) x l
+  stored-add more =
+      let place : at + (len + more) ≡ at + len + more = omega arith in
+      rw (
+        take-stored len (omega arith),
+        put-drop l (octetsOf len x) at len (omega arith) (length-octetsOf len x) e more,
+        octetsOf-add len more x,
+        place,
+      )
+      (simp append-assoc)
 
 -- eight octets, stored as four and four
 pub stored-eight : (at x : ℕ) (l : List ℕ) {r : List ℕ} → at + 8 ≤ length l → r ≡ stored at 4 (x % 4294967296) l → stored (at + 4) 4 (x / 4294967296) r ≡ stored at 8 x l
-stored-eight at x l {r} h e =
+stored-eight at x l h e =
     let low : octetsOf 4 (x % 4294967296) ≡ octetsOf 4 x = octetsOf-low 4 x in
-    stored-add at 4 4 x l (omega arith) (rw low at e)
+    stored-add at 4 x l (omega arith) (rw low at e) 4
 
--- and up to the end of the first of them
-take-stored-front : (at k more x : ℕ) (l : List ℕ) → at + (k + more) ≤ length l → take (at + k) (stored at (k + more) x l) ≡ take at l ++ octetsOf k x
-take-stored-front at k more x l h =
-    let apart : stored at (k + more) x l ≡ (take at l ++ octetsOf k x) ++ (octetsOf more (x / 256 ^ k) ++ drop (at + (k + more)) l)
-    = rw (octetsOf-add k more x) (simp append-assoc) in
-    rw apart (take-at (take at l ++ octetsOf k x) _ (at + k) (stored-front at k x l (omega arith)))
+-- ---- the loops
+
+-- the octets of one word
+encoded-one : (qlen x : ℕ) → encoded qlen (x ∷ []) ≡ octetsOf qlen x
+encoded-one qlen x = unfold encoded joined in append-nil (octetsOf qlen x)
 
 pub encoded-snoc : (qlen : ℕ) (xs : List ℕ) (x : ℕ) → encoded qlen (xs ++ (x ∷ [])) ≡ encoded qlen xs ++ octetsOf qlen x
-encoded-snoc qlen xs x =
-    let one : encoded qlen (x ∷ []) ≡ octetsOf qlen x = unfold encoded joined in append-nil (octetsOf qlen x) in
-    encoded-append qlen xs (x ∷ []) ∙ ap (λ (r : List ℕ). encoded qlen xs ++ r) one
+encoded-snoc qlen xs x = rw (encoded-append qlen xs (x ∷ []), encoded-one qlen x)
 
--- ---- turns of a loop
+-- the octets of the words before place m are stored
+abbrev pub EncodedTo : ℕ → List ℕ → ℕ → List ℕ → ℕ → Type 0
+EncodedTo qlen words total octets m = (m ≤ length words) × (length octets ≡ total) × (take (m * qlen) octets ≡ encoded qlen (take m words))
 
--- a turn of a loop that stores the octets of the word at place m, and perhaps some more, which the next turn writes over
+-- a turn that stores the octets of so many words, and perhaps some more, which the next turn writes over
+encode-turn : (m qlen len x count : ℕ) (words l : List ℕ) {r : List ℕ} → m * qlen + len ≤ length l → r ≡ stored (m * qlen) len x l
+    → take (m * qlen) l ≡ encoded qlen (take m words) → count * qlen ≤ len → octetsOf (count * qlen) x ≡ encoded qlen (take count (drop m words))
+    → take ((m + count) * qlen) r ≡ encoded qlen (take (m + count) words)
+encode-turn m qlen len x count words l room e before whole value =
+    let next : (m + count) * qlen ≡ m * qlen + count * qlen = omega arith in
+    rw (next, take-stored (m * qlen) len x l room e (count * qlen) whole, before, value, take-add m count words)
+    (sym (encoded-append qlen (take m words) (take count (drop m words))))
+
+-- one word
 pub encode-wide : (m qlen len : ℕ) (words l : List ℕ) {r : List ℕ} → m < length words → qlen ≤ len → m * qlen + len ≤ length l
     → r ≡ stored (m * qlen) len (getD words m 0) l → take (m * qlen) l ≡ encoded qlen (take m words)
     → take ((m + 1) * qlen) r ≡ encoded qlen (take (m + 1) words)
-encode-wide m qlen len words l {r} inside whole room e before = go (len - qlen) (omega arith)
-  where
-    go : (more : ℕ) → qlen + more ≡ len → take ((m + 1) * qlen) r ≡ encoded qlen (take (m + 1) words)
-    go more size =
-        let next : (m + 1) * qlen ≡ m * qlen + qlen = omega arith in
-        let front : take (m * qlen + qlen) r ≡ take (m * qlen) l ++ octetsOf qlen (getD words m 0)
-        = ap (take (m * qlen + qlen)) (rw (← size) at e) ∙ take-stored-front (m * qlen) qlen more (getD words m 0) l (rw size room) in
-        rw (next, front, before, add-one m, take-suc words m 0 inside, encoded-snoc qlen (take m words) (getD words m 0))
+encode-wide m qlen len words l inside whole room e before =
+    encode-turn m qlen len (getD words m 0) 1 words l room e before (omega arith) (rw (drop-cons words m 0 inside, encoded-one qlen (getD words m 0), one-mul qlen))
 
--- and of one that stores no more than those
-pub encode-step : (m qlen : ℕ) (words l : List ℕ) {r : List ℕ} → m < length words → length words * qlen ≤ length l
-    → r ≡ stored (m * qlen) qlen (getD words m 0) l → take (m * qlen) l ≡ encoded qlen (take m words)
-    → take ((m + 1) * qlen) r ≡ encoded qlen (take (m + 1) words)
-encode-step m qlen words l inside exact = encode-wide m qlen qlen words l inside (omega arith) (place-end m qlen inside exact)
-
--- two words at a time, with perhaps some octets more
-encode-pair : (m qlen more : ℕ) (words l : List ℕ) {x : ℕ} {r : List ℕ} → m + 2 ≤ length words → m * qlen + (qlen + qlen + more) ≤ length l
-    → x ≡ getD words m 0 % 256 ^ qlen + 256 ^ qlen * getD words (m + 1) 0 → r ≡ stored (m * qlen) (qlen + qlen + more) x l
-    → take (m * qlen) l ≡ encoded qlen (take m words) → take ((m + 2) * qlen) r ≡ encoded qlen (take (m + 2) words)
-encode-pair m qlen more words l {x} {r} inside room value e before =
-    let next : (m + 2) * qlen ≡ m * qlen + (qlen + qlen) = omega arith in
-    let front : take (m * qlen + (qlen + qlen)) r ≡ take (m * qlen) l ++ octetsOf (qlen + qlen) x
-    = ap (take (m * qlen + (qlen + qlen))) e ∙ take-stored-front (m * qlen) (qlen + qlen) more x l room in
-    let both : take (m + 2) words ≡ (take m words ++ (getD words m 0 ∷ [])) ++ (getD words (m + 1) 0 ∷ [])
-    = rw (two-more m, take-suc words (m + 1) 0 (omega arith), add-one m, take-suc words m 0 (omega arith)) in
-    rw (
-      next,
-      front,
-      before,
-      both,
-      encoded-snoc qlen (take m words ++ (getD words m 0 ∷ [])) (getD words (m + 1) 0),
-      encoded-snoc qlen (take m words) (getD words m 0),
-      octetsOf-pair qlen x (getD words m 0) (getD words (m + 1) 0) value,
-    )
-    (simp append-assoc)
-  where
-    two-more : (m : ℕ) → m + 2 ≡ suc (m + 1)
-    two-more m = omega arith
-
+-- two words, as eight octets
 pub encode-eight : (m qlen : ℕ) (words l : List ℕ) {x : ℕ} {r : List ℕ} → m + 2 ≤ length words → qlen ≤ 4 → m * qlen + 8 ≤ length l
     → x ≡ getD words m 0 % 256 ^ qlen + 256 ^ qlen * getD words (m + 1) 0 → r ≡ stored (m * qlen) 8 x l
     → take (m * qlen) l ≡ encoded qlen (take m words) → take ((m + 2) * qlen) r ≡ encoded qlen (take (m + 2) words)
-encode-eight m qlen words l {x} {r} inside few room value e before = go (8 - (qlen + qlen)) (omega arith)
-  where
-    go : (more : ℕ) → qlen + qlen + more ≡ 8 → take ((m + 2) * qlen) r ≡ encoded qlen (take (m + 2) words)
-    go more size = encode-pair m qlen more words l inside (rw size room) value (rw size e) before
+encode-eight m qlen words l {x} inside few room value e before =
+    let twice : 2 * qlen ≡ qlen + qlen = omega arith in
+    let both : take 2 (drop m words) ≡ (getD words m 0 ∷ []) ++ (getD words (m + 1) 0 ∷ [])
+    = rw (next-places m .0, drop-cons words m 0 (omega arith), drop-cons words (suc m) 0 (omega arith)) in
+    encode-turn m qlen 8 x 2 words l room e before (omega arith)
+    (rw (twice, both, encoded-snoc qlen (getD words m 0 ∷ []) (getD words (m + 1) 0), encoded-one qlen (getD words m 0))
+    (octetsOf-pair qlen x (getD words m 0) (getD words (m + 1) 0) value))
 
 pub encode-end : (m qlen : ℕ) (words l : List ℕ) → length words ≡ m → length l ≡ length words * qlen
     → take (m * qlen) l ≡ encoded qlen (take m words) → l ≡ encoded qlen words

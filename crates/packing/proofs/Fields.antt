@@ -11,7 +11,7 @@
 use Prim.Native.Nat.{ℕ, zero, suc, _+_, _-_, _*_, _/_, _%_, _^_, _≤_, _<_, min}
 use mathlib.Core.Path.{_≡_, refl, sym, ap, ap₂, _∙_}
 use mathlib.Core.List.{List, [], _∷_, _++_, append-nil}
-use native.Mathlib.Nat.{zero-add, add-comm, mul-assoc, zero-mul, suc-mul, zero-div, div-one, div-eq-of-lt, div-add-mod', mod-lt, pow-suc, add-mul-div-left, mul-add-div-right, add-mul-mod-self-right, mul-zero, mul-le-mul-left, mul-le-mul-right, div-lt-iff-lt-mul, le-div-iff-mul-le, div-mul-le-self, min-le-left, min-le-right, le-trans, le-of-eq, le-of-lt}
+use native.Mathlib.Nat.{zero-add, add-comm, mul-assoc, zero-mul, suc-mul, zero-div, div-one, div-eq-of-lt, div-add-mod', mod-lt, pow-suc, add-mul-div-left, mul-add-div-right, add-mul-mod-self-right, mul-zero, mul-le-mul-left, mul-le-mul-right, div-lt-iff-lt-mul, le-div-iff-mul-le, le-trans, le-of-lt}
 use native.Mathlib.Decide.{decLt}
 use native.Mathlib.Omega.{arith}
 use lib.Arith.{digits-lt}
@@ -26,6 +26,7 @@ use Rattle.definitions.proofs.Octets.{AllBelow, below-head, below-tail, below-t
 use Rattle.definitions.proofs.Packing.{binary, binary-bits, bitAt-outside}
 use Rattle.encoding.proofs.Laws.{stored, take-stored}
 use Rattle.packing.specs.Fields.{valueIn, fieldsOf}
+use Rattle.packing.proofs.Groups.{Group, groups-within}
 
 -- ---- bits of a number
 
@@ -42,6 +43,9 @@ field-bits v m x =
 -- ---- the number of some numbers
 
 module _ (w : ℕ) where
+  pub weight-suc : (k : ℕ) → 2 ^ (suc k * w) ≡ 2 ^ w * 2 ^ (k * w)
+  weight-suc k = ap (λ (e : ℕ). 2 ^ e) (suc-mul k w ∙ add-comm (k * w) w) ∙ pow-add 2 w (k * w)
+
   value-high : (x k : ℕ) (xs : List ℕ) → x < 2 ^ w → valueIn w (x ∷ xs) / 2 ^ (w + k) ≡ valueIn w xs / 2 ^ k
   unfolding valueIn
   value-high x k xs h =
@@ -74,17 +78,12 @@ module _ (w : ℕ) where
   unfolding valueIn
   value-below [] h = rw (zero-mul w) (omega arith)
   value-below (x ∷ xs) h =
-      let e : 2 ^ (suc (length xs) * w) ≡ 2 ^ w * 2 ^ (length xs * w)
-      = ap (λ (k : ℕ). 2 ^ k) (suc-mul (length xs) w ∙ add-comm (length xs * w) w) ∙ pow-add 2 w (length xs * w) in
-      rw e (omega (arith, below-head (2 ^ w) x xs h, mul-le-mul-left (2 ^ w) (value-below xs (below-tail (2 ^ w) x xs h))))
+      rw (weight-suc (length xs)) (omega (arith, below-head (2 ^ w) x xs h, mul-le-mul-left (2 ^ w) (value-below xs (below-tail (2 ^ w) x xs h))))
 
   pub value-snoc : (xs : List ℕ) (y : ℕ) → valueIn w (xs ++ (y ∷ [])) ≡ valueIn w xs + 2 ^ (length xs * w) * y
   unfolding valueIn
   value-snoc [] y = rw (zero-mul w) (omega arith)
-  value-snoc (x ∷ xs) y =
-      let e : 2 ^ (suc (length xs) * w) ≡ 2 ^ w * 2 ^ (length xs * w)
-      = ap (λ (k : ℕ). 2 ^ k) (suc-mul (length xs) w ∙ add-comm (length xs * w) w) ∙ pow-add 2 w (length xs * w) in
-      rw (e, value-snoc xs y) (omega arith)
+  value-snoc (x ∷ xs) y = rw (weight-suc (length xs), value-snoc xs y) (omega arith)
 
 pub numberOf-value : (octets : List ℕ) → numberOf octets ≡ valueIn 8 octets
 unfolding numberOf valueIn
@@ -123,6 +122,10 @@ module _ (w : ℕ) (numbers : List ℕ) (pos : 0 < w) (a c : ℕ) where
 
 -- ---- a list regrouped
 
+-- the bit where a group starts
+group-start : {w v places many : ℕ} → Group w v places many → (g : ℕ) → g * many * w ≡ g * places * v
+group-start {w} {v} {places} {many} group g = mul-assoc g many w ∙ ap (λ (k : ℕ). g * k) (group .same-bits) ∙ sym (mul-assoc g places v)
+
 -- the places from i on are the fields of the numbers from a on, where both start at one bit and the part has all the bits
 pub regrouped-add : (w v : ℕ) (numbers : List ℕ) (a c i count : ℕ) → 0 < w → AllBelow (2 ^ w) numbers → a * w ≡ i * v
     → ((t : ℕ) → t < count * v → bitAt w (take c (drop a numbers)) t ≡ bitAt w numbers (a * w + t))
@@ -143,13 +146,13 @@ regrouped-add w v numbers a c i count pos below start same =
         ∙ same (k * v + j) (digits-lt l s)
         ∙ ap (bitAt w numbers) (rw (start) (omega arith))))
 
--- a group: so many numbers of w bits are so many places of v bits
-pub regrouped-group : (w v places many : ℕ) (numbers : List ℕ) (g : ℕ) → 0 < w → many * w ≡ places * v → AllBelow (2 ^ w) numbers
-    → regrouped w v (g * places + places) numbers ≡ regrouped w v (g * places) numbers ++ fieldsOf v places (valueIn w (take many (drop (g * many) numbers)))
-regrouped-group w v places many numbers g pos same below =
-    let start : g * many * w ≡ g * places * v = mul-assoc g many w ∙ ap (λ (k : ℕ). g * k) same ∙ sym (mul-assoc g places v) in
-    regrouped-add w v numbers (g * many) many (g * places) places pos below start
-    (λ t l. bitAt-part w numbers pos (g * many) many t (rw same l))
+-- a group more
+pub regrouped-group : {w v places many : ℕ} → Group w v places many → (numbers : List ℕ) (g : ℕ) → AllBelow (2 ^ w) numbers
+    → regrouped w v (g * places + places) numbers
+    ≡ regrouped w v (g * places) numbers ++ fieldsOf v places (valueIn w (take many (drop (g * many) numbers)))
+regrouped-group {w} {v} {places} {many} group numbers g below =
+    regrouped-add w v numbers (g * many) many (g * places) places (group .some-bits) below (group-start group g)
+    (λ t l. bitAt-part w numbers (group .some-bits) (g * many) many t (rw (group .same-bits) l))
 
 -- the places past the last bit are zero
 pub regrouped-zeros : (w v : ℕ) (numbers : List ℕ) (i count : ℕ) → 0 < w → length numbers * w ≤ i * v
@@ -162,61 +165,51 @@ regrouped-zeros w v numbers i count pos past =
     (bitAt-outside w numbers ((i + k) * v + j) pos (omega arith)) ∙ mul-zero (2 ^ j))))
 
 -- so many groups, then a last one that may be short in numbers or in places, then zeros
-module _ (w v places many n : ℕ) (numbers : List ℕ) (posw : 0 < w) (posW : 0 < places) (posV : 0 < many) (same : many * w ≡ places * v) (g : ℕ)
+module _ {w v places many : ℕ} (group : Group w v places many) (n : ℕ) (numbers : List ℕ) (g : ℕ)
     (groups : g ≡ min (n / places) (length numbers / many))
   where
-    pub groups-places : g * places ≤ n
-    groups-places = le-trans (mul-le-mul-right places (le-trans (le-of-eq groups) (min-le-left (n / places) (length numbers / many)))) (div-mul-le-self n places)
-
-    pub groups-numbers : g * many ≤ length numbers
-    groups-numbers =
-        le-trans (mul-le-mul-right many (le-trans (le-of-eq groups) (min-le-right (n / places) (length numbers / many)))) (div-mul-le-self (length numbers) many)
-
-    start : g * many * w ≡ g * places * v
-    start = mul-assoc g many w ∙ ap (λ (k : ℕ). g * k) same ∙ sym (mul-assoc g places v)
-
     -- where a whole group of places is left, the numbers end within it
     numbers-end : places < n - g * places → length numbers * w ≤ (g * places + places) * v
     numbers-end more =
-        let room : g < n / places = le-div-iff-mul-le posW .1 (omega (arith, suc-mul g places)) in
-        let all : g ≡ length numbers / many = omega arith in
-        let short : length numbers < suc g * many = div-lt-iff-lt-mul posV .0 (omega arith) in
-        le-trans (mul-le-mul-right w (le-of-lt short)) (omega (arith, suc-mul g many, same, start))
+        let room : g < n / places = le-div-iff-mul-le (group .some-places) .1 (omega (arith, suc-mul g places)) in
+        let short : length numbers < suc g * many = div-lt-iff-lt-mul (group .some-numbers) .0 (omega arith) in
+        le-trans (mul-le-mul-right w (le-of-lt short)) (omega (arith, suc-mul g many, group .same-bits, group-start group g))
 
-    module _ (below : AllBelow (2 ^ w) numbers) (count len : ℕ) (counts : count ≡ min (n - g * places) places) (lens : len ≡ min (length numbers - g * many) many) where
-      last-bits : (t : ℕ) → t < count * v → bitAt w (take len (drop (g * many) numbers)) t ≡ bitAt w numbers (g * many * w + t)
-      last-bits t l =
-          elim (decLt (length numbers - g * many) many) [
-            | yes s ↦ bitAt-rest w numbers posw (g * many) len (omega arith) t
-            | no s ↦ let whole : len ≡ many = omega arith in
-                let narrow : count * v ≤ places * v = mul-le-mul-right v (omega arith) in
-                bitAt-part w numbers posw (g * many) len t (rw (whole, same) (omega arith))
-          ]
+    module _ (below : AllBelow (2 ^ w) numbers) (count len : ℕ) (counts : count ≡ min (n - g * places) places)
+        (lens : len ≡ min (length numbers - g * many) many)
+      where
+        last-bits : (t : ℕ) → t < count * v → bitAt w (take len (drop (g * many) numbers)) t ≡ bitAt w numbers (g * many * w + t)
+        last-bits t l =
+            elim (decLt (length numbers - g * many) many) [
+              | yes s ↦ bitAt-rest w numbers (group .some-bits) (g * many) len (omega arith) t
+              | no s ↦ let whole : len ≡ many = omega arith in
+                  let narrow : count * v ≤ places * v = mul-le-mul-right v (omega arith) in
+                  bitAt-part w numbers (group .some-bits) (g * many) len t (rw (whole, group .same-bits) (omega arith))
+            ]
 
-      pub regrouped-parts : regrouped w v n numbers
-          ≡ (regrouped w v (g * places) numbers ++ fieldsOf v count (valueIn w (take len (drop (g * many) numbers)))) ++ replicate (n - (g * places + count)) 0
-      regrouped-parts =
-          rw (← regrouped-add w v numbers (g * many) len (g * places) count posw below start last-bits)
-          (elim (decLt places (n - g * places)) [
-            | yes s ↦ let whole : count ≡ places = omega arith in
-                let split : n ≡ (g * places + count) + (n - (g * places + count)) = omega (arith, groups-places) in
-                ap (λ (k : ℕ). regrouped w v k numbers) split
-                ∙ regrouped-zeros w v numbers (g * places + count) (n - (g * places + count)) posw (rw whole (numbers-end s))
-            | no s ↦ let end : g * places + count ≡ n = omega (arith, groups-places) in
-                let none : n - n ≡ 0 = omega arith in
-                rw (end, none, append-nil (regrouped w v n numbers))
-          ])
+        regrouped-parts : regrouped w v n numbers
+            ≡ (regrouped w v (g * places) numbers ++ fieldsOf v count (valueIn w (take len (drop (g * many) numbers)))) ++ replicate (n - (g * places + count)) 0
+        regrouped-parts =
+            let inside : g * places ≤ n = groups-within g n places (omega arith) in
+            rw (← regrouped-add w v numbers (g * many) len (g * places) count (group .some-bits) below (group-start group g) last-bits)
+            (elim (decLt places (n - g * places)) [
+              | yes s ↦ let whole : count ≡ places = omega arith in
+                  let split : n ≡ (g * places + count) + (n - (g * places + count)) = omega arith in
+                  ap (λ (k : ℕ). regrouped w v k numbers) split
+                  ∙ regrouped-zeros w v numbers (g * places + count) (n - (g * places + count)) (group .some-bits) (rw whole (numbers-end s))
+              | no s ↦ let end : g * places + count ≡ n = omega arith in
+                  let none : n - n ≡ 0 = omega arith in
+                  rw (end, none, append-nil (regrouped w v n numbers))
+            ])
 
-      -- as code makes it: the groups, the last one behind them, zeros behind that
-      pub parts-whole : (l₁ l₂ l₃ : List ℕ) {x : ℕ} → take (g * places) l₁ ≡ regrouped w v (g * places) numbers
-          → x ≡ valueIn w (take len (drop (g * many) numbers)) → take (g * places + count) l₂ ≡ take (g * places) l₁ ++ fieldsOf v count x
-          → length l₂ ≡ n → l₃ ≡ take (g * places + count) l₂ ++ replicate (length l₂ - (g * places + count)) 0 → l₃ ≡ regrouped w v n numbers
-      parts-whole l₁ l₂ l₃ first value last full cleared = rw (cleared, full, last, first, value) (sym regrouped-parts)
+        -- as code makes it: the groups, the last one behind them, zeros behind that
+        pub parts-whole : (l₁ l₂ : List ℕ) {l₃ : List ℕ} {x : ℕ} → take (g * places) l₁ ≡ regrouped w v (g * places) numbers
+            → x ≡ valueIn w (take len (drop (g * many) numbers)) → take (g * places + count) l₂ ≡ take (g * places) l₁ ++ fieldsOf v count x
+            → length l₂ ≡ n → l₃ ≡ take (g * places + count) l₂ ++ replicate (length l₂ - (g * places + count)) 0
+            → l₃ ≡ regrouped w v n numbers
+        parts-whole l₁ l₂ first value last full cleared = rw (cleared, full, last, first, value) (sym regrouped-parts)
 
 -- what stands up to the end of octets that were stored
-pub take-stored-fields : (at len x : ℕ) (l r : List ℕ) → at + len ≤ length l → r ≡ stored at len x l → take (at + len) r ≡ take at l ++ fieldsOf 8 len x
-take-stored-fields at len x l r h e = rw (e, ← octetsOf-fields len x) (take-stored at len x l h)
-
--- where a part starts inside, it ends inside
-pub part-end : {start total len : ℕ} (most : ℕ) → start ≤ total → len ≡ min (total - start) most → start + len ≤ total
-part-end most h e = omega arith
+pub take-stored-fields : (at len x : ℕ) (l : List ℕ) {r : List ℕ} → at + len ≤ length l → r ≡ stored at len x l
+    → take (at + len) r ≡ take at l ++ fieldsOf 8 len x
+take-stored-fields at len x l h e = rw (← octetsOf-fields len x) (take-stored at len x l h e len (omega arith))

@@ -1,23 +1,36 @@
--- Why a group may be handled four words at a time: its bits are at most 32, and words put into a list leave the others as they are.
+-- How large a group is: many × 8 coefficients of b bits are many × b octets, at most 4, so that its number has at most 32 bits.
 --
---   many-..          how many times 8 coefficients of b bits a group has, so that its many × b octets are at most 4
---     many-few         it is at most 4;  many-narrow: so is b;  many-last: a last group, which may be short, has at most 32 bits
---     many-bits        the coefficients have as many bits as the octets
---     many-fits        4 / b will do;  many-words, many-octets: it gives at least one coefficient, and one octet
---   four-stored      four words in a list, stored one by one;  four-read: read one by one
---   put-take         a list with a part put into it, up to the end of the part;  put-drop: after it
---   put-step         parts put at equal distances: what holds of each of them, with one part more
+--   Group            so many numbers of w bits are so many places of v bits;  group-of: coefficients and octets;  turned: the other way round
+--   many-..          many is at most 4, and so is b;  many-last: a last group, which may be short, has at most 32 bits
+--   four-over-..     4 / b will do for many
+--   groups-within    whole groups are inside;  some-within: and so are some of them;  part-end: and a part after them
+--   place-below      a place is at most where its octets or coefficients start
 -- Assumes nothing.
-use Prim.Native.Nat.{ℕ, suc, _+_, _*_, _/_, _≤_, _<_, min}
-use mathlib.Core.Path.{_≡_, sym, ap, _∙_}
-use mathlib.Core.List.{List, [], _∷_, _++_, append-assoc}
-use native.Mathlib.Nat.{suc-mul, mul-pos, mul-le-mul-left, mul-le-mul-right, div-mul-le-self, le-div-iff-mul-le}
-use native.Mathlib.Decide.{decLt}
+use Prim.Native.Nat.{ℕ, _+_, _-_, _*_, _/_, _≤_, _<_, min}
+use mathlib.Core.Path.{_≡_, sym}
+use native.Mathlib.Nat.{mul-pos, mul-le-mul-left, mul-le-mul-right, div-mul-le-self, le-div-iff-mul-le, le-trans}
 use native.Mathlib.Omega.{arith}
-use lib.ListN.{length, getD, take, drop, set, length-append, length-drop, take-append-drop}
-use lib.Seq.{take-at, drop-at, drop-cons, length-take-le, take-append-le, drop-append-le, sets-eq}
 
--- ---- how large a group is
+pub record Group (w v places many : ℕ) : Type 0 where
+  pub some-bits : 0 < w
+  pub some-width : 0 < v
+  pub some-places : 0 < places
+  pub some-numbers : 0 < many
+  pub same-bits : many * w ≡ places * v
+
+pub group-of : (b many : ℕ) → 1 ≤ b → 1 ≤ many → Group b 8 (many * b) (many * 8)
+group-of b many pos some =
+    record { some-bits = pos; some-width = omega arith; some-places = mul-pos some pos; some-numbers = omega arith; same-bits = omega arith }
+
+pub turned : {w v places many : ℕ} → Group w v places many → Group v w many places
+turned g =
+    record {
+      some-bits = g .some-width;
+      some-width = g .some-bits;
+      some-places = g .some-numbers;
+      some-numbers = g .some-places;
+      same-bits = sym (g .same-bits);
+    }
 
 module _ (b many : ℕ) (fits : many * b ≤ 4) where
   pub many-few : 1 ≤ b → many ≤ 4
@@ -31,78 +44,21 @@ module _ (b many : ℕ) (fits : many * b ≤ 4) where
       let few : count ≤ many * 8 = omega arith in
       omega (arith, mul-le-mul-right b few)
 
-pub many-bits : (b many : ℕ) → many * 8 * b ≡ many * b * 8
-many-bits b many = omega arith
-
 -- as many as 32 bits hold
-pub many-fits : (b : ℕ) → 4 / b * b ≤ 4
-many-fits b = div-mul-le-self 4 b
+pub four-over-fits : (b : ℕ) → 4 / b * b ≤ 4
+four-over-fits b = div-mul-le-self 4 b
 
-module _ (b : ℕ) (pos : 1 ≤ b) (narrow : b ≤ 4) where
-  some : 1 ≤ 4 / b
-  some = le-div-iff-mul-le pos .1 (omega arith)
+pub four-over-some : (b : ℕ) → 1 ≤ b → b ≤ 4 → 1 ≤ 4 / b
+four-over-some b pos narrow = le-div-iff-mul-le pos .1 (omega arith)
 
-  pub many-words : 0 < 4 / b * 8
-  many-words = omega (arith, some)
+pub groups-within : (g n size : ℕ) → g ≤ n / size → g * size ≤ n
+groups-within g n size h = le-trans (mul-le-mul-right size h) (div-mul-le-self n size)
 
-  pub many-octets : 0 < 4 / b * b
-  many-octets = mul-pos some pos
+pub some-within : (g some groups size : ℕ) {total : ℕ} → g + some ≤ groups → groups * size ≤ total → (g + some) * size ≤ total
+some-within g some groups size l h = le-trans (mul-le-mul-right size l) h
 
--- ---- four words in a list
+pub part-end : {start total len : ℕ} (most : ℕ) → start ≤ total → len ≡ min (total - start) most → start + len ≤ total
+part-end most h e = omega arith
 
-next : (at : ℕ) → (at + 1 ≡ suc at) × (at + 2 ≡ suc (suc at)) × (at + 3 ≡ suc (suc (suc at)))
-next at = (omega arith, omega arith, omega arith)
-
-pub four-stored : (l : List ℕ) (at p q r s : ℕ) → at + 4 ≤ length l
-    → set (set (set (set l at p) (at + 1) q) (at + 2) r) (at + 3) s ≡ take at l ++ ((p ∷ q ∷ r ∷ s ∷ []) ++ drop (at + 4) l)
-four-stored l at p q r s h =
-    let n = next at in
-    rw (n .0, n .1, n .2) (sets-eq (p ∷ q ∷ r ∷ s ∷ []) l at h ∙ append-assoc (take at l) (p ∷ q ∷ r ∷ s ∷ []) (drop (at + 4) l))
-
-pub four-read : (l : List ℕ) (at : ℕ) → at + 4 ≤ length l
-    → take 4 (drop at l) ≡ getD l at 0 ∷ getD l (at + 1) 0 ∷ getD l (at + 2) 0 ∷ getD l (at + 3) 0 ∷ []
-four-read l at h =
-    let n = next at in
-    rw (n .0, n .1, n .2, drop-cons l at 0 (omega arith), drop-cons l (suc at) 0 (omega arith), drop-cons l (suc (suc at)) 0 (omega arith), drop-cons l (suc (suc (suc at))) 0 (omega arith))
-
--- ---- a part put into a list
-
--- a part of a front does not depend on what stands behind the front
-front-part : (l rest : List ℕ) (at i n : ℕ) → at ≤ length l → i + n ≤ at → take n (drop i (take at l ++ rest)) ≡ take n (drop i (take at l))
-front-part l rest at i n room h =
-    let full : length (take at l) ≡ at = length-take-le at l room in
-    rw (drop-append-le i (take at l) rest (omega arith))
-    (take-append-le n (drop i (take at l)) rest (omega (arith, length-drop i (take at l))))
-
-module _ (l part : List ℕ) (at count : ℕ) (room : at ≤ length l) (len : length part ≡ count) {r : List ℕ} (e : r ≡ take at l ++ (part ++ drop (at + count) l)) where
-  front : length (take at l ++ part) ≡ at + count
-  front = omega (arith, length-append (take at l) part, length-take-le at l room)
-
-  apart : r ≡ (take at l ++ part) ++ drop (at + count) l
-  apart = e ∙ sym (append-assoc (take at l) part (drop (at + count) l))
-
-  pub put-take : take (at + count) r ≡ take at l ++ part
-  put-take = rw apart (take-at (take at l ++ part) (drop (at + count) l) (at + count) front)
-
-  pub put-drop : drop (at + count) r ≡ drop (at + count) l
-  put-drop = rw apart (drop-at (take at l ++ part) (drop (at + count) l) (at + count) front)
-
-  put-here : take count (drop at r) ≡ part
-  put-here =
-      rw (e, drop-at (take at l) (part ++ drop (at + count) l) at (length-take-le at l room))
-      (take-at part (drop (at + count) l) count len)
-
-  put-before : (i n : ℕ) → i + n ≤ at → take n (drop i r) ≡ take n (drop i l)
-  put-before i n h =
-      rw e (front-part l (part ++ drop (at + count) l) at i n room h ∙ sym (front-part l (drop at l) at i n room h)
-      ∙ ap (λ (k : List ℕ). take n (drop i k)) (take-append-drop at l))
-
-pub put-step : (P : ℕ → List ℕ → Type 0) (l part : List ℕ) (size count g : ℕ) {r : List ℕ} → count ≤ size → g * size ≤ length l → length part ≡ count
-    → r ≡ take (g * size) l ++ (part ++ drop (g * size + count) l) → P g part → ((h : ℕ) → h < g → P h (take count (drop (h * size) l)))
-    → (h : ℕ) → h < g + 1 → P h (take count (drop (h * size) r))
-put-step P l part size count g wide room len e now before h inside =
-    elim (decLt h g) [
-      | yes s ↦ let end : h * size + count ≤ g * size = omega (arith, mul-le-mul-right size s, suc-mul h size) in
-          rw (put-before l part (g * size) count room len e (h * size) count end) (before h s)
-      | no s ↦ let here : h ≡ g = omega arith in rw (here, put-here l part (g * size) count room len e) now
-    ]
+pub place-below : (m len : ℕ) {total bound : ℕ} → 1 ≤ len → m * len + len ≤ total → total < bound → m < bound
+place-below m len pos h l = omega (arith, mul-le-mul-left m pos)

@@ -4,41 +4,36 @@
 --   lane-..          a lane with one coefficient more; it fits 32 bits, as all of them do together;  lanes-stored: the four lanes stored
 --   join-..          the four shifted sums as the code makes them
 --   collect-step     the lanes of one group more;  join-step: its octets
---   regrouped-groups so many groups more;  groups-step: as the loop over up to 16 groups makes them
---   number-fits      the number of a group fits 32 bits;  groups-end, place-below: where up to 16 groups end, and that a place fits
+--   groups-step      the octets of up to 16 groups more;  number-fits: the number of a group fits 32 bits
 -- Assumes nothing.
-use Prim.Native.Nat.{ℕ, zero, suc, _+_, _-_, _*_, _%_, _^_, _≤_, _<_, min}
+use Prim.Native.Nat.{ℕ, zero, suc, _+_, _*_, _%_, _^_, _≤_, _<_, zero-le}
 use mathlib.Core.Path.{_≡_, refl, sym, ap, _∙_}
 use mathlib.Core.Bool.{true}
 use mathlib.Core.List.{List, [], _∷_, _++_, append-nil, append-assoc}
-use native.Mathlib.Nat.{add-zero, suc-mul, mul-le-mul-right, mul-le-mul-left, mod-eq-of-lt, le-trans, lt-of-le-of-lt}
+use native.Mathlib.Nat.{add-zero, mul-le-mul-right, mod-eq-of-lt, le-trans, lt-of-le-of-lt}
 use native.Mathlib.Numerals.{add-one}
 use native.Mathlib.Omega.{arith}
-use lib.Pow.{pow-pos, pow-add, shl-exact}
+use lib.Pow.{pow-pos, pow-add}
 use lib.ListN.{length, getD, take, drop, set}
 use Rattle.definitions.specs.Sequences.{sum, tabulate, joined}
 use Rattle.definitions.specs.Octets.{octetsOf, regrouped, encoded, coefficientsFit}
-use Rattle.definitions.proofs.Filling.{tabulate-snoc}
+use Rattle.definitions.proofs.Filling.{tabulate-snoc, four-stored, four-read, put-step}
 use Rattle.definitions.proofs.Sums.{tabulate-cong}
 use Rattle.definitions.proofs.Octets.{AllBelow, coefficientsFit-below}
 use Rattle.encoding.proofs.Laws.{encoded-snoc}
 use Rattle.packing.specs.Fields.{valueIn, fieldsOf}
 use Rattle.packing.specs.Lanes.{laneFrom, lanesIn, laneNumber, groupNumber}
-use Rattle.packing.proofs.Fields.{octetsOf-fields, regrouped-group}
-use Rattle.packing.proofs.Groups.{four-stored, four-read, put-step}
-use Rattle.packing.proofs.Shifts.{shift-end, value-next, value-fits}
+use Rattle.packing.proofs.Fields.{weight-suc, octetsOf-fields, regrouped-group}
+use Rattle.packing.proofs.Groups.{Group}
+use Rattle.packing.proofs.Shifts.{shift-exact, value-next, value-fits}
 
 -- ---- the lanes of a group
 
 module _ (words : List ℕ) (at b : ℕ) where
-  weight : (k : ℕ) → 2 ^ (suc k * b) ≡ 2 ^ b * 2 ^ (k * b)
-  weight k = ap (λ (e : ℕ). 2 ^ e) (omega (arith, suc-mul k b)) ∙ pow-add 2 b (k * b)
-
   pub lanes-whole : (rows : ℕ) → at + rows * 4 ≤ length words → valueIn b (take (rows * 4) (drop at words)) ≡ valueIn b (lanesIn b rows at words)
   unfolding valueIn lanesIn laneFrom sum
   lanes-whole zero h = omega arith
   lanes-whole (suc rows) h =
-      let k = rows * 4 in
       let count : suc rows * 4 ≡ suc (suc (suc (suc (rows * 4)))) = omega arith in
       let e1 : getD words (at + suc (rows * 4)) 0 ≡ getD words (at + 1 + rows * 4) 0 = ap (λ (i : ℕ). getD words i 0) (omega arith) in
       let e2 : getD words (at + suc (suc (rows * 4))) 0 ≡ getD words (at + 2 + rows * 4) 0 = ap (λ (i : ℕ). getD words i 0) (omega arith) in
@@ -49,9 +44,9 @@ module _ (words : List ℕ) (at b : ℕ) where
         value-next words at b (suc (suc (rows * 4))) (omega arith),
         value-next words at b (suc (rows * 4)) (omega arith),
         value-next words at b (rows * 4) (omega arith),
-        weight (suc (suc (rows * 4))),
-        weight (suc (rows * 4)),
-        weight (rows * 4),
+        weight-suc b (suc (suc (rows * 4))),
+        weight-suc b (suc (rows * 4)),
+        weight-suc b (rows * 4),
         e1,
         e2,
         e3,
@@ -60,14 +55,11 @@ module _ (words : List ℕ) (at b : ℕ) where
 
 -- ---- what fits
 
-module _ (b x : ℕ) (xs : List ℕ) where
-  value-head : x ≤ valueIn b (x ∷ xs)
-  unfolding valueIn
-  value-head = omega arith
-
-  value-tail : valueIn b xs ≤ valueIn b (x ∷ xs)
-  unfolding valueIn
-  value-tail = omega (arith, mul-le-mul-right (valueIn b xs) (pow-pos b))
+value-least : (b : ℕ) (xs : List ℕ) (i : ℕ) → getD xs i 0 ≤ valueIn b xs
+unfolding valueIn
+value-least b [] i = zero-le
+value-least b (x ∷ xs) zero = omega arith
+value-least b (x ∷ xs) (suc i) = omega (arith, value-least b xs i, mul-le-mul-right (valueIn b xs) (pow-pos b))
 
 module _ (words : List ℕ) (at b rows most : ℕ) (fit : coefficientsFit (2 ^ b) words ≡ true) (few : rows ≤ most) (narrow : most * 4 * b ≤ 32)
     (inside : at + most * 4 ≤ length words)
@@ -77,32 +69,16 @@ module _ (words : List ℕ) (at b rows most : ℕ) (fit : coefficientsFit (2 ^ b
         let bits : rows * 4 * b ≤ 32 = le-trans (mul-le-mul-right b (mul-le-mul-right 4 few)) narrow in
         rw (← lanes-whole words at b rows (omega arith)) (value-fits words at b (rows * 4) fit bits)
 
-    pub lanes-fit : (laneFrom b rows at words < 4294967296) × (laneFrom b rows (at + 1) words < 4294967296)
-        × (laneFrom b rows (at + 2) words < 4294967296) × (laneFrom b rows (at + 3) words < 4294967296)
-    unfolding lanesIn
-    lanes-fit =
-        let x0 : ℕ = laneFrom b rows at words in
-        let x1 : ℕ = laneFrom b rows (at + 1) words in
-        let x2 : ℕ = laneFrom b rows (at + 2) words in
-        let x3 : ℕ = laneFrom b rows (at + 3) words in
-        let one = lt-of-le-of-lt (value-tail b x0 (x1 ∷ x2 ∷ x3 ∷ [])) all-fit in
-        let two = lt-of-le-of-lt (value-tail b x1 (x2 ∷ x3 ∷ [])) one in
-        let three = lt-of-le-of-lt (value-tail b x2 (x3 ∷ [])) two in (
-          lt-of-le-of-lt (value-head b x0 (x1 ∷ x2 ∷ x3 ∷ [])) all-fit,
-          lt-of-le-of-lt (value-head b x1 (x2 ∷ x3 ∷ [])) one,
-          lt-of-le-of-lt (value-head b x2 (x3 ∷ [])) two,
-          lt-of-le-of-lt (value-head b x3 []) three,
-        )
+    pub lane-fits : (i : ℕ) → getD (lanesIn b rows at words) i 0 < 4294967296
+    lane-fits i = lt-of-le-of-lt (value-least b (lanesIn b rows at words) i) all-fit
 
 -- a lane with one coefficient more, as the code makes it
 pub lane-step : (words : List ℕ) (from b rows j : ℕ) {x row : ℕ} → coefficientsFit (2 ^ b) words ≡ true → rows * 4 * b ≤ 32 → j < rows
     → row < length words → row ≡ from + j * 4 → x ≡ laneFrom b j from words
     → x + getD words row 0 * 2 ^ (j * 4 * b) % 4294967296 ≡ laneFrom b (j + 1) from words
 unfolding laneFrom sum
-lane-step words from b rows j {x} {row} fit narrow few inside place e =
-    let exact : getD words row 0 * 2 ^ (j * 4 * b) % 4294967296 ≡ getD words row 0 * 2 ^ (j * 4 * b)
-    = shl-exact b (j * 4 * b) 32 (coefficientsFit-below (2 ^ b) words fit row inside) (shift-end (j * 4) (rows * 4) b (omega arith) narrow) in
-    rw (exact, e, add-one j, place)
+lane-step words from b rows j {row = row} fit narrow few inside place e =
+    rw (shift-exact words b (j * 4) (rows * 4) row fit narrow (omega arith) inside, e, add-one j, place)
 
 -- the four stores
 pub lanes-stored : (l : List ℕ) (to b rows at : ℕ) (words : List ℕ) {x0 x1 x2 x3 : ℕ} → to + 4 ≤ length l → x0 ≡ laneFrom b rows at words
@@ -146,7 +122,8 @@ module _ (lanes : List ℕ) (at b : ℕ) (inside : at + 4 ≤ length lanes) wher
 -- ---- the lanes of some groups
 
 -- a turn of the loop over groups that adds up lanes
-pub collect-step : (b many start g : ℕ) (words old : List ℕ) {new : List ℕ} → g * 4 + 4 ≤ length old → (start + g) * (many * 8) + many * 8 ≤ length words
+pub collect-step : (b many start g : ℕ) (words old : List ℕ) {new : List ℕ} → g * 4 + 4 ≤ length old
+    → (start + g) * (many * 8) + many * 8 ≤ length words
     → new ≡ take (g * 4) old ++ (lanesIn b (many * 2) ((start + g) * (many * 8)) words ++ drop (g * 4 + 4) old)
     → ((k : ℕ) → k < g → laneNumber b old k ≡ groupNumber b (many * 8) words (start + k))
     → (k : ℕ) → k < g + 1 → laneNumber b new k ≡ groupNumber b (many * 8) words (start + k)
@@ -156,7 +133,8 @@ collect-step b many start g words old room inside stored =
     let size : many * 2 * 4 ≡ many * 8 = omega arith in
     let number : valueIn b lanes ≡ groupNumber b (many * 8) words (start + g)
     = rw (← lanes-whole words ((start + g) * (many * 8)) b (many * 2) (omega arith), size) in
-    put-step (λ (k : ℕ) (four : List ℕ). valueIn b four ≡ groupNumber b (many * 8) words (start + k)) old lanes 4 4 g (omega arith) (omega arith) refl stored number
+    put-step (λ (k : ℕ) (four : List ℕ). valueIn b four ≡ groupNumber b (many * 8) words (start + k)) old lanes 4 4 g (omega arith) (omega arith)
+    refl stored number
 
 -- ---- the octets of some groups
 
@@ -171,46 +149,33 @@ join-step len start g front l r f value before put =
     (append-assoc front (encoded len (tabulate g f)) (fieldsOf 8 len (f g)))
 
 -- so many groups more
-pub regrouped-groups : (w places many : ℕ) (numbers : List ℕ) (start some : ℕ) → 0 < w → many * w ≡ places * 8 → AllBelow (2 ^ w) numbers
-    → regrouped w 8 ((start + some) * places) numbers
-    ≡ regrouped w 8 (start * places) numbers ++ encoded places (tabulate some (λ g. groupNumber w many numbers (start + g)))
-regrouped-groups w places many numbers start zero pos same below =
-    let none : encoded places (tabulate 0 (λ g. groupNumber w many numbers (start + g))) ≡ [] = unfold encoded joined tabulate in refl in
-    rw (add-zero start, none, append-nil (regrouped w 8 (start * places) numbers))
-regrouped-groups w places many numbers start (suc some) pos same below =
-    let next : (start + suc some) * places ≡ (start + some) * places + places = omega arith in
-    let group : fieldsOf 8 places (valueIn w (take many (drop ((start + some) * many) numbers))) ≡ octetsOf places (groupNumber w many numbers (start + some))
-    = unfold groupNumber in sym (octetsOf-fields places (valueIn w (take many (drop ((start + some) * many) numbers)))) in
-    rw (
-      next,
-      regrouped-group w 8 places many numbers (start + some) pos same below,
-      regrouped-groups w places many numbers start some pos same below,
-      group,
-      tabulate-snoc some (λ g. groupNumber w many numbers (start + g)),
-      encoded-snoc places (tabulate some (λ g. groupNumber w many numbers (start + g))) (groupNumber w many numbers (start + some)),
-    )
-    (append-assoc (regrouped w 8 (start * places) numbers) (encoded places (tabulate some (λ g. groupNumber w many numbers (start + g)))) (octetsOf places (groupNumber w many numbers (start + some))))
+module _ {w places many : ℕ} (group : Group w 8 places many) (numbers : List ℕ) (start : ℕ) (below : AllBelow (2 ^ w) numbers) where
+  numberAt : ℕ → ℕ
+  numberAt g = groupNumber w many numbers (start + g)
 
--- a turn of the loop over up to 16 groups
-pub groups-step : (w places many : ℕ) (numbers l r : List ℕ) (start some : ℕ) (f : ℕ → ℕ) → 0 < w → many * w ≡ places * 8 → AllBelow (2 ^ w) numbers
-    → ((g : ℕ) → g < some → f g ≡ groupNumber w many numbers (start + g)) → take (start * places) l ≡ regrouped w 8 (start * places) numbers
-    → take ((start + some) * places) r ≡ take (start * places) l ++ encoded places (tabulate some f)
-    → take ((start + some) * places) r ≡ regrouped w 8 ((start + some) * places) numbers
-groups-step w places many numbers l r start some f pos same below values before put =
-    rw (regrouped-groups w places many numbers start some pos same below, put, before, tabulate-cong some values)
+  regrouped-groups : (some : ℕ)
+      → regrouped w 8 ((start + some) * places) numbers ≡ regrouped w 8 (start * places) numbers ++ encoded places (tabulate some numberAt)
+  regrouped-groups zero =
+      let none : encoded places (tabulate 0 numberAt) ≡ [] = unfold encoded joined tabulate in refl in
+      rw (add-zero start, none, append-nil (regrouped w 8 (start * places) numbers))
+  regrouped-groups (suc some) =
+      let next : (start + suc some) * places ≡ (start + some) * places + places = omega arith in
+      let last : fieldsOf 8 places (valueIn w (take many (drop ((start + some) * many) numbers))) ≡ octetsOf places (numberAt some)
+      = unfold numberAt groupNumber in sym (octetsOf-fields places (valueIn w (take many (drop ((start + some) * many) numbers)))) in
+      rw (next, regrouped-group group numbers (start + some) below, regrouped-groups some, last, tabulate-snoc some numberAt)
+      (rw (encoded-snoc places (tabulate some numberAt) (numberAt some))
+      (append-assoc (regrouped w 8 (start * places) numbers) (encoded places (tabulate some numberAt)) (octetsOf places (numberAt some))))
 
--- ---- sizes
+  -- a turn of the loop over up to 16 groups
+  pub groups-step : (l r : List ℕ) (some : ℕ) (f : ℕ → ℕ) → ((g : ℕ) → g < some → f g ≡ groupNumber w many numbers (start + g))
+      → take (start * places) l ≡ regrouped w 8 (start * places) numbers
+      → take ((start + some) * places) r ≡ take (start * places) l ++ encoded places (tabulate some f)
+      → take ((start + some) * places) r ≡ regrouped w 8 ((start + some) * places) numbers
+  unfolding numberAt
+  groups-step l r some f values before put = rw (regrouped-groups some, put, before, tabulate-cong some values)
 
 -- the number of a group's lanes is that of its coefficients
-pub number-fits : (words : List ℕ) (b many g : ℕ) {x : ℕ} → coefficientsFit (2 ^ b) words ≡ true → many * b ≤ 4 → x ≡ groupNumber b (many * 8) words g → x < 4294967296
+pub number-fits : (words : List ℕ) (b many g : ℕ) {x : ℕ} → coefficientsFit (2 ^ b) words ≡ true → many * b ≤ 4
+    → x ≡ groupNumber b (many * 8) words g → x < 4294967296
 unfolding groupNumber
 number-fits words b many g fit small e = rw e (value-fits words (g * (many * 8)) b (many * 8) fit (omega (arith, small)))
-
-pub groups-end : (g some groups len : ℕ) {total : ℕ} → g < groups → some ≡ min (groups - g) 16 → groups * len ≤ total → (g + some) * len ≤ total
-groups-end g some groups len inside e h =
-    let l : g + some ≤ groups = omega arith in
-    le-trans (mul-le-mul-right len l) h
-
--- a place is at most where its octets or coefficients start
-pub place-below : (m len : ℕ) {total bound : ℕ} → 1 ≤ len → m * len + len ≤ total → total < bound → m < bound
-place-below m len pos h l = omega (arith, mul-le-mul-left m pos)

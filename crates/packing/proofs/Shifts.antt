@@ -2,7 +2,7 @@
 --
 --   shift-..         the place of a coefficient's first bit is below 32, its end at most 32
 --   value-next       the number of one coefficient more;  value-fits: it has at most 32 bits
---   gather-..        the same as the code makes it
+--   shift-exact      a coefficient shifted to its place;  gather-step: a sum with one coefficient more, as code makes it
 -- Assumes nothing.
 use Prim.Native.Nat.{ℕ, suc, _+_, _*_, _%_, _^_, _≤_, _<_}
 use mathlib.Core.Path.{_≡_}
@@ -44,21 +44,24 @@ value-next words at b k inside =
     )
 
 -- coefficients that have at most 32 bits together
-pub value-fits : (words : List ℕ) (at b count : ℕ) → coefficientsFit (2 ^ b) words ≡ true → count * b ≤ 32 → valueIn b (take count (drop at words)) < 4294967296
+pub value-fits : (words : List ℕ) (at b count : ℕ) → coefficientsFit (2 ^ b) words ≡ true → count * b ≤ 32
+    → valueIn b (take count (drop at words)) < 4294967296
 value-fits words at b count fit narrow =
-    let short : length (take count (drop at words)) ≤ count = omega (arith, length-take count (drop at words)) in
-    let bits : length (take count (drop at words)) * b ≤ 32 = le-trans (mul-le-mul-right b short) narrow in
-    lt-of-lt-of-le
-    (value-below b (take count (drop at words)) (below-take (2 ^ b) count (drop at words) (below-drop (2 ^ b) at words (coefficientsFit-below (2 ^ b) words fit))))
-    (pow-mono bits)
+    let part = take count (drop at words) in
+    let short : length part ≤ count = omega (arith, length-take count (drop at words)) in
+    let bits : length part * b ≤ 32 = le-trans (mul-le-mul-right b short) narrow in
+    let below = below-take (2 ^ b) count (drop at words) (below-drop (2 ^ b) at words (coefficientsFit-below (2 ^ b) words fit)) in
+    lt-of-lt-of-le (value-below b part below) (pow-mono bits)
 
-module _ (words : List ℕ) (at b k count : ℕ) (fit : coefficientsFit (2 ^ b) words ≡ true) (few : k < count) (narrow : count * b ≤ 32) (inside : at + k < length words) where
-  pub gather-step : {x : ℕ} → x ≡ valueIn b (take k (drop at words))
-      → x + getD words (at + k) 0 * 2 ^ (k * b) % 4294967296 ≡ valueIn b (take (k + 1) (drop at words))
-  gather-step e =
-      let exact : getD words (at + k) 0 * 2 ^ (k * b) % 4294967296 ≡ getD words (at + k) 0 * 2 ^ (k * b)
-      = shl-exact b (k * b) 32 (coefficientsFit-below (2 ^ b) words fit (at + k) inside) (shift-end k count b few narrow) in
-      rw (exact, e, add-one k, value-next words at b k inside)
+-- a coefficient shifted to its place
+pub shift-exact : (words : List ℕ) (b k count i : ℕ) → coefficientsFit (2 ^ b) words ≡ true → count * b ≤ 32 → k < count → i < length words
+    → getD words i 0 * 2 ^ (k * b) % 4294967296 ≡ getD words i 0 * 2 ^ (k * b)
+shift-exact words b k count i fit narrow few inside =
+    shl-exact b (k * b) 32 (coefficientsFit-below (2 ^ b) words fit i inside) (shift-end k count b few narrow)
 
-  pub gather-fits : valueIn b (take (k + 1) (drop at words)) < 4294967296
-  gather-fits = let most : k + 1 ≤ count = omega arith in value-fits words at b (k + 1) fit (le-trans (mul-le-mul-right b most) narrow)
+-- a sum with one coefficient more, as code makes it
+pub gather-step : (words : List ℕ) (at b k count : ℕ) {x : ℕ} → coefficientsFit (2 ^ b) words ≡ true → count * b ≤ 32 → k < count
+    → at + k < length words → x ≡ valueIn b (take k (drop at words))
+    → x + getD words (at + k) 0 * 2 ^ (k * b) % 4294967296 ≡ valueIn b (take (k + 1) (drop at words))
+gather-step words at b k count fit narrow few inside e =
+    rw (shift-exact words b k count (at + k) fit narrow few inside, e, add-one k, value-next words at b k inside)

@@ -1,6 +1,6 @@
 -- `decoding::four` is right because each octet has 256 times the weight of the one before it.
 -- Assumes nothing.
-use mathlib.Core.Path.{_≡_, refl}
+use mathlib.Core.Path.{_≡_}
 use native.Mathlib.Omega.{arith}
 use borrow.Author.Needs.{needs}
 use Rattle.definitions.specs.Sequences.{sum}
@@ -10,29 +10,12 @@ use Rattle.decoding.proofs.four.Tie as tie
 
 returns : tie.Need-returns
 unfolding sum
-returns c =
-    let a = c .before .before .before .before .before .before .before .before .before .args in
-    omega (arith, numberOf-take 3 4 (a .at) (a .octets .now) refl (omega arith))
+returns c = let s : tie.Start = search needs in omega (arith, numberOf-take 3 (s .args .at) (s .args .octets .now) (omega arith))
 
 pub four-spec : {M : Type 1} → statement M
 four-spec =
     tie.close
-    (tie.spec
-    (λ c. search needs)
-    (λ c κs. search needs)
-    (λ c. search needs)
-    (λ c. search needs)
-    (λ c κs. search needs)
-    (λ c. search needs)
-    (λ c. search needs)
-    (λ c. search needs)
-    (λ c. search needs)
-    (λ c κs. search needs)
-    (λ c. search needs)
-    (λ c. search needs)
-    (λ c. search needs)
-    (λ c. search needs)
-    (λ c κs. search needs)
-    (λ c. search needs)
-    (λ c. search needs)
-    returns)
+    (tie.spec (λ c. search needs) (λ c κs. search needs)
+    (λ c. search needs) (λ c. search needs) (λ c κs. search needs) (λ c. search needs) (λ c. search needs)
+    (λ c. search needs) (λ c. search needs) (λ c κs. search needs) (λ c. search needs) (λ c. search needs)
+    (λ c. search needs) (λ c. search needs) (λ c κs. search needs) (λ c. search needs) (λ c. search needs) returns)

@@ -9,19 +9,17 @@ use Rattle.decoding.proofs.wide_number.Statement.{statement}
 use Rattle.decoding.proofs.wide_number.Tie as tie
 
 returns : tie.Need-returns
-returns c =
-    let a = c .before .before .before .args in
-    let e : a .len ≡ 4 = omega arith in
-    rw e (c .before .four .ensures)
+returns c = let s : tie.Start = search needs in let e : s .args .len ≡ 4 = omega arith in cc
 
 rem-result : tie.Need-rem-result
-rem-result c = octets-weight-pos (c .before .before .before .args .len) (omega arith)
+rem-result c = octets-weight-pos _ (omega arith)
 
 returns-2 : tie.Need-returns-2
 returns-2 c =
-    let a = c .before .before .before .args in
+    let s : tie.After-shared-slice-known = search needs in
+    let a = s .before .args in
     rw (shl-octets (a .len) 32 (omega arith), c .before .four .ensures)
-    (sym (numberOf-four (a .len) (a .at) (a .octets .now) (λ i h. c .before .before .shared-slice-known .given i .fits) (omega arith) (omega arith)))
+    (sym (numberOf-four (a .len) (a .at) (a .octets .now) (λ i h. s .shared-slice-known .given i .fits) (omega arith) (omega arith)))
 
 pub wide-number-spec : {M : Type 1} → statement M
 wide-number-spec = tie.close (tie.spec (λ c κs. search needs) returns (λ c. search needs) (λ c. search needs) (λ c. search needs) rem-result returns-2)

@@ -11,45 +11,25 @@ use Rattle.encoding.proofs.Laws.{pair-weight-pos, pair-fits, pair-secon
 use Rattle.encoding.proofs.pair.Statement.{statement}
 use Rattle.encoding.proofs.pair.Tie as tie
 
-second : (c : tie.After-shared-slice-known2) → getD (c .before .before .args .words .now) (c .before .before .args .m + 1) 0 < 4294967296
-second c = c .shared-slice-known2 .given (c .before .before .args .m + 1) .fits
+abbrev start : tie.After-shared-slice-known2 → tie.Start
+start c = search needs
 
-cast-result : tie.Need-cast-result
-cast-result c = record { fits = lt-of-lt-of-le (c .shared-slice-known .given (c .before .args .m) .fits) (lit≤ tt) }
-
-rem-result : tie.Need-rem-result
-rem-result c = pair-weight-pos (c .before .args .qlen) (omega arith)
-
-cast-result-2 : tie.Need-cast-result-2
-cast-result-2 c = record { fits = lt-of-lt-of-le (second c) (lit≤ tt) }
+second : (c : tie.After-shared-slice-known2) → getD (start c .args .words .now) (start c .args .m + 1) 0 < 4294967296
+second c = c .shared-slice-known2 .given (start c .args .m + 1) .fits
 
 mul-result-3 : tie.Need-mul-result-3
-mul-result-3 c =
-    let a = c .before .before .args in
-    record { fits = pair-second-fits (a .qlen) (omega arith) (getD (a .words .now) (a .m) 0) _ (second c) }
+mul-result-3 c = record { fits = pair-second-fits _ (omega arith) (getD (start c .args .words .now) (start c .args .m) 0) _ (second c) }
 
 add-result-2 : tie.Need-add-result-2
-add-result-2 c =
-    let a = c .before .before .args in
-    record { fits = pair-fits (a .qlen) (omega arith) (getD (a .words .now) (a .m) 0) _ (second c) }
+add-result-2 c = record { fits = pair-fits (start c .args .qlen) (omega arith) _ _ (second c) }
 
 returns : tie.Need-returns
-returns c = rw (shl-octets (c .before .before .args .qlen) 64 (omega arith))
+returns c = rw (shl-octets (start c .args .qlen) 64 (omega arith))
 
 pub pair-spec : {M : Type 1} → statement M
 pair-spec =
     tie.close
-    (tie.spec
-    (λ c. search needs)
-    (λ c. search needs)
-    (λ c. search needs)
-    (λ c. search needs)
-    cast-result
-    rem-result
-    (λ c. search needs)
-    (λ c. search needs)
-    (λ c. search needs)
-    cast-result-2
-    mul-result-3
-    add-result-2
-    returns)
+    (tie.spec (λ c. search needs) (λ c. search needs) (λ c. search needs) (λ c. search needs)
+    (λ c. record { fits = lt-of-lt-of-le (c .shared-slice-known .given _ .fits) (lit≤ tt) }) (λ c. pair-weight-pos _ (omega arith))
+    (λ c. search needs) (λ c. search needs) (λ c. search needs) (λ c. record { fits = lt-of-lt-of-le (second c) (lit≤ tt) })
+    mul-result-3 add-result-2 returns)

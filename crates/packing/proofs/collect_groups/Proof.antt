@@ -4,10 +4,11 @@ use Prim.Native.Nat.{ℕ, _+_, _-_, _*_, _≤_, _<_}
 use mathlib.Core.Path.{_≡_, refl}
 use native.Mathlib.Omega.{arith}
 use lib.ListN.{length}
+use borrow.Author.Needs.{needs}
 use Rattle.definitions.proofs.Octets.{place-end}
 use Rattle.packing.specs.Lanes.{laneNumber, groupNumber}
-use Rattle.packing.proofs.Groups.{many-few}
-use Rattle.packing.proofs.Lanes.{collect-step, place-below}
+use Rattle.packing.proofs.Groups.{many-few, place-below}
+use Rattle.packing.proofs.Lanes.{collect-step}
 use Rattle.packing.proofs.collect_groups.Statement.{statement}
 use Rattle.packing.proofs.collect_groups.Tie as tie
 
@@ -21,81 +22,44 @@ abbrev μ-loop : tie.MeasureT-loop
 loop-holds : tie.Need-loop-holds Inv-loop μ-loop
 loop-holds c = (omega arith, refl, λ k l. let z : ⊥ = omega arith in absurd z)
 
-end : (c : tie.In-loop Inv-loop μ-loop)
-    → (c .before .before .before .before .args .start + c .before .loop .g) * (c .before .before .before .before .args .many * 8)
-    + c .before .before .before .before .args .many * 8
-    ≤ length (c .before .before .before .before .args .words .now)
-end c =
-    let s = c .before .before .before .before in
+abbrev begun : tie.In-loop Inv-loop μ-loop → tie.Start Inv-loop μ-loop
+begun c = search needs
+
+-- the coefficients of the group are there
+room : (c : tie.In-loop Inv-loop μ-loop)
+    → (begun c .args .start + c .before .loop .g) * (begun c .args .many * 8) + begun c .args .many * 8 ≤ length (begun c .args .words .now)
+room c =
+    let s = begun c in
     place-end (s .args .start + c .before .loop .g) (s .args .many * 8) {count = s .args .start + s .args .some} (omega arith) (s .pre .3)
 
-few : (c : tie.In-loop Inv-loop μ-loop) → c .before .before .before .before .args .many ≤ 4
-few c =
-    let s = c .before .before .before .before in
-    many-few (s .args .b) (s .args .many) (s .pre .2) (s .pre .0)
+few : (s : tie.Start Inv-loop μ-loop) → s .args .many ≤ 4
+few s = many-few (s .args .b) (s .args .many) (s .pre .2) (s .pre .0)
 
 add-collect : tie.Need-add-collect Inv-loop μ-loop
-add-collect c =
-    let s = c .before .before .before .before in
-    record { fits = place-below (s .args .start + c .before .loop .g) (s .args .many * 8) (omega arith) (end c) (omega arith) }
-
-mul-collect : tie.Need-mul-collect Inv-loop μ-loop
-mul-collect c = omega (arith, few c)
-
-mul-collect-2 : tie.Need-mul-collect-2 Inv-loop μ-loop
-mul-collect-2 c = record { fits = omega (arith, end c) }
-
-mul-collect-3 : tie.Need-mul-collect-3 Inv-loop μ-loop
-mul-collect-3 c = omega (arith, few c)
-
-mul-collect-4 : tie.Need-mul-collect-4 Inv-loop μ-loop
-mul-collect-4 c = omega arith
+add-collect c = record { fits = place-below _ (begun c .args .many * 8) (omega arith) (room c) (omega arith) }
 
 collect-requires : tie.Need-collect-requires Inv-loop μ-loop
 collect-requires c κs =
-    let s = c .before .before .before .before .before in
-    (s .pre .0, omega arith, omega (arith, s .pre .2), omega (arith, end (c .before)), omega arith, s .pre .5)
-
-add-g : tie.Need-add-g Inv-loop μ-loop
-add-g c = omega arith
-
-loop-less : tie.Need-loop-less Inv-loop μ-loop
-loop-less c = omega arith
+    let s : tie.Start Inv-loop μ-loop = search needs in
+    (s .pre .0, omega arith, omega (arith, s .pre .2), omega (arith, room (search needs)), omega arith, s .pre .5)
 
 loop-again : tie.Need-loop-again Inv-loop μ-loop
 loop-again c =
-    let i = c .before .before .before .before in
-    let s = i .before .before .before .before in
+    let i : tie.In-loop Inv-loop μ-loop = search needs in
+    let put : tie.After-collect Inv-loop μ-loop = search needs in
+    let a = begun i .args in
     let l = i .before .loop in (
       omega arith,
       omega arith,
-      collect-step (s .args .b) (s .args .many) (s .args .start) (l .g) (s .args .words .now) (l .lanes) (omega arith) (end i) (c .before .before .collect .ensures) (l .inv .2),
+      collect-step (a .b) (a .many) (a .start) (l .g) (a .words .now) (l .lanes) (omega arith) (room i) (put .collect .ensures) (l .inv .2),
     )
 
-same-length : tie.Need-same-length Inv-loop μ-loop
-same-length c = omega arith
-
 returns : tie.Need-returns Inv-loop μ-loop
-returns c =
-    let l = c .before .loop in
-    let end : c .before .before .before .before .args .some ≡ l .g = omega arith in
-    rw end (l .inv .2)
+returns c = λ g h. c .before .loop .inv .2 g (omega arith)
 
 pub collect-groups-spec : {M : Type 1} → statement M
 collect-groups-spec =
     tie.close
-    (tie.spec
-    Inv-loop
-    μ-loop
-    loop-holds
-    add-collect
-    mul-collect
-    mul-collect-2
-    mul-collect-3
-    mul-collect-4
-    collect-requires
-    add-g
-    loop-less
-    loop-again
-    same-length
-    returns)
+    (tie.spec Inv-loop μ-loop loop-holds add-collect (λ c. omega (arith, few (search needs))) (λ c. omega (arith, room (search needs)))
+    (λ c. omega (arith, few (search needs))) (λ c. search needs) collect-requires (λ c. search needs) (λ c. search needs) loop-again
+    (λ c. search needs) returns)

@@ -1,13 +1,13 @@
 -- `packing::gather` is right because coefficient k has the weight 2^(k × b), and 32 bits hold all of them.
 -- Assumes nothing.
-use Prim.Native.Nat.{_-_, _*_, _≤_, _<_}
+use Prim.Native.Nat.{_+_, _-_, _*_, _%_, _^_, _≤_, _<_}
 use mathlib.Core.Path.{_≡_, refl}
-use native.Mathlib.Nat.{lt-of-lt-of-le}
+use native.Mathlib.Nat.{mul-le-mul-right, le-trans}
 use native.Mathlib.Omega.{arith}
-use lib.Dec.{lit≤}
-use lib.ListN.{take, drop}
+use lib.ListN.{getD, take, drop}
+use borrow.Author.Needs.{needs}
 use Rattle.packing.specs.Fields.{valueIn}
-use Rattle.packing.proofs.Shifts.{shift-below, gather-step, gather-fits}
+use Rattle.packing.proofs.Shifts.{shift-below, value-fits, gather-step}
 use Rattle.packing.proofs.gather.Statement.{statement}
 use Rattle.packing.proofs.gather.Tie as tie
 
@@ -21,70 +21,40 @@ loop-holds : tie.Need-loop-holds Inv-loop μ-loop
 unfolding valueIn
 loop-holds c = (omega arith, refl)
 
-add-x : tie.Need-add-x Inv-loop μ-loop
-add-x c = omega arith
+abbrev start : tie.In-loop Inv-loop μ-loop → tie.Start Inv-loop μ-loop
+start c = search needs
 
-mul-x : tie.Need-mul-x Inv-loop μ-loop
-mul-x c = omega arith
+narrow : (c : tie.In-loop Inv-loop μ-loop) → c .before .loop .k * start c .args .b < 32
+narrow c = shift-below (c .before .loop .k) (start c .args .count) (start c .args .b) (omega arith) (start c .pre .1) (omega arith)
 
-shared-slice-read-x : tie.Need-shared-slice-read-x Inv-loop μ-loop
-shared-slice-read-x c = omega arith
-
-narrow : (c : tie.After-shared-slice-known Inv-loop μ-loop) → c .before .before .loop .k * c .before .before .before .args .b < 32
-narrow c = shift-below (c .before .before .loop .k) (c .before .before .before .args .count) (c .before .before .before .args .b) (omega arith) (c .before .before .before .pre .1) (omega arith)
-
-mul-x-2 : tie.Need-mul-x-2 Inv-loop μ-loop
-mul-x-2 c = record { fits = lt-of-lt-of-le (narrow c) (lit≤ tt) }
-
-cast-x : tie.Need-cast-x Inv-loop μ-loop
-cast-x c = record { fits = lt-of-lt-of-le (narrow c) (lit≤ tt) }
-
-shl-x : tie.Need-shl-x Inv-loop μ-loop
-shl-x c = narrow c
+-- the sum with the coefficient of this turn
+turn : (c : tie.In-loop Inv-loop μ-loop)
+    → c .before .loop .x + getD (start c .args .words .now) (start c .args .at + c .before .loop .k) 0 * 2 ^ (c .before .loop .k * start c .args .b) % 4294967296
+    ≡ valueIn (start c .args .b) (take (c .before .loop .k + 1) (drop (start c .args .at) (start c .args .words .now)))
+turn c =
+    let s = start c in
+    gather-step (s .args .words .now) (s .args .at) (s .args .b) (c .before .loop .k) (s .args .count) (s .pre .3) (s .pre .1) (omega arith) (omega arith)
+    (c .before .loop .inv .1)
 
 add-x-2 : tie.Need-add-x-2 Inv-loop μ-loop
 add-x-2 c =
-    let s = c .before .before .before in
-    let l = c .before .before .loop in
-    record {
-      fits =
-          rw (gather-step (s .args .words .now) (s .args .at) (s .args .b) (l .k) (s .args .count) (s .pre .3) (omega arith) (s .pre .1) (omega arith) (l .inv .1))
-          (gather-fits (s .args .words .now) (s .args .at) (s .args .b) (l .k) (s .args .count) (s .pre .3) (omega arith) (s .pre .1) (omega arith));
-    }
-
-add-k : tie.Need-add-k Inv-loop μ-loop
-add-k c = omega arith
-
-loop-less : tie.Need-loop-less Inv-loop μ-loop
-loop-less c = omega arith
+    let i : tie.In-loop Inv-loop μ-loop = search needs in
+    let s = start i in
+    let few : i .before .loop .k + 1 ≤ s .args .count = omega arith in
+    record { fits = rw (turn i) (value-fits (s .args .words .now) (s .args .at) (s .args .b) _ (s .pre .3) (le-trans (mul-le-mul-right (s .args .b) few) (s .pre .1))) }
 
 loop-again : tie.Need-loop-again Inv-loop μ-loop
-loop-again c =
-    let s = c .before .before .before in
-    let l = c .before .before .loop in
-    (omega arith, gather-step (s .args .words .now) (s .args .at) (s .args .b) (l .k) (s .args .count) (s .pre .3) (omega arith) (s .pre .1) (omega arith) (l .inv .1))
+loop-again c = (omega arith, turn (search needs))
 
 returns : tie.Need-returns Inv-loop μ-loop
 returns c =
-    let l = c .before .loop in
-    let end : c .before .before .args .count ≡ l .k = omega arith in
-    rw end (l .inv .1)
+    let s : tie.Start Inv-loop μ-loop = search needs in
+    let end : s .args .count ≡ c .before .loop .k = omega arith in
+    rw end (c .before .loop .inv .1)
 
 pub gather-spec : {M : Type 1} → statement M
 gather-spec =
     tie.close
-    (tie.spec
-    Inv-loop
-    μ-loop
-    loop-holds
-    add-x
-    mul-x
-    shared-slice-read-x
-    mul-x-2
-    cast-x
-    shl-x
-    add-x-2
-    add-k
-    loop-less
-    loop-again
-    returns)
+    (tie.spec Inv-loop μ-loop loop-holds (λ c. search needs) (λ c. search needs) (λ c. search needs)
+    (λ c. omega (arith, narrow (search needs))) (λ c. omega (arith, narrow (search needs))) (λ c. narrow (search needs)) add-x-2
+    (λ c. search needs) (λ c. search needs) loop-again returns)

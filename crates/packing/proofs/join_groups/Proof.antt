@@ -6,13 +6,14 @@ use mathlib.Core.List.{_++_, append-nil}
 use native.Mathlib.Nat.{add-zero, mul-pos}
 use native.Mathlib.Omega.{arith}
 use lib.ListN.{length, take}
+use borrow.Author.Needs.{needs}
 use Rattle.definitions.specs.Sequences.{tabulate, joined}
 use Rattle.definitions.specs.Octets.{encoded}
 use Rattle.definitions.proofs.Octets.{place-end}
 use Rattle.packing.specs.Lanes.{laneNumber}
 use Rattle.packing.proofs.Fields.{take-stored-fields}
-use Rattle.packing.proofs.Groups.{many-narrow}
-use Rattle.packing.proofs.Lanes.{join-step, place-below}
+use Rattle.packing.proofs.Groups.{many-narrow, place-below}
+use Rattle.packing.proofs.Lanes.{join-step}
 use Rattle.packing.proofs.join_groups.Statement.{statement}
 use Rattle.packing.proofs.join_groups.Tie as tie
 
@@ -26,93 +27,55 @@ abbrev μ-loop : tie.MeasureT-loop
 
 loop-holds : tie.Need-loop-holds Inv-loop μ-loop
 unfolding encoded joined tabulate
-loop-holds c =
-    let a = c .before .before .args in
-    (omega arith, refl, rw (add-zero (a .start)) (sym (append-nil (take (a .start * (a .many * a .b)) (a .octets .now)))))
+loop-holds c = let s : tie.Start Inv-loop μ-loop = search needs in (omega arith, refl, rw (add-zero (s .args .start)) (sym (append-nil _)))
 
-end : (c : tie.After-store-arg Inv-loop μ-loop)
-    → (c .before .before .before .before .before .args .start + c .before .before .loop .g)
-    * (c .before .before .before .before .before .args .many * c .before .before .before .before .before .args .b)
-    + c .before .before .before .before .before .args .many * c .before .before .before .before .before .args .b
-    ≤ length (c .before .before .loop .octets)
-end c =
-    let s = c .before .before .before .before .before in
-    place-end (s .args .start + c .before .before .loop .g) (s .args .many * s .args .b) {count = s .args .start + s .args .some} (omega arith) (rw (c .before .before .loop .inv .1) (s .pre .0 .3))
+abbrev begun : tie.In-loop Inv-loop μ-loop → tie.Start Inv-loop μ-loop
+begun c = search needs
+
+-- the octets of the group have room
+room : (c : tie.In-loop Inv-loop μ-loop)
+    → (begun c .args .start + c .before .loop .g) * (begun c .args .many * begun c .args .b) + begun c .args .many * begun c .args .b ≤ length (c .before .loop .octets)
+room c =
+    let s = begun c in
+    place-end (s .args .start + c .before .loop .g) (s .args .many * s .args .b) {count = s .args .start + s .args .some} (omega arith)
+    (rw (c .before .loop .inv .1) (s .pre .0 .3))
 
 add-store : tie.Need-add-store Inv-loop μ-loop
 add-store c =
-    let s = c .before .before .before .before .before in
-    record {
-      fits =
-          place-below (s .args .start + c .before .before .loop .g) (s .args .many * s .args .b) (mul-pos (s .pre .0 .1) (s .pre .0 .0)) (end c) (omega arith);
-    }
-
-mul-store : tie.Need-mul-store Inv-loop μ-loop
-mul-store c = omega arith
-
-mul-store-2 : tie.Need-mul-store-2 Inv-loop μ-loop
-mul-store-2 c = record { fits = omega (arith, end c) }
-
-mul-store-3 : tie.Need-mul-store-3 Inv-loop μ-loop
-mul-store-3 c = omega arith
-
-mul-join : tie.Need-mul-join Inv-loop μ-loop
-mul-join c = omega arith
+    let i : tie.In-loop Inv-loop μ-loop = search needs in
+    let s = begun i in
+    record { fits = place-below _ (s .args .many * s .args .b) (mul-pos (s .pre .0 .1) (s .pre .0 .0)) (room i) (omega arith) }
 
 join-requires : tie.Need-join-requires Inv-loop μ-loop
 unfolding laneNumber
 join-requires c κs =
-    let s = c .before .before .before .before .before in
-    (many-narrow (s .args .b) (s .args .many) (s .pre .0 .2) (s .pre .0 .1), omega arith, s .pre .1 (c .before .before .loop .g) (c .before .loop-test .taken))
-
-store-requires : tie.Need-store-requires Inv-loop μ-loop
-store-requires c κs = (c .before .before .before .before .before .before .pre .0 .2, end (c .before))
-
-add-g : tie.Need-add-g Inv-loop μ-loop
-add-g c = omega arith
-
-loop-less : tie.Need-loop-less Inv-loop μ-loop
-loop-less c = omega arith
+    let i : tie.In-loop Inv-loop μ-loop = search needs in
+    let s = begun i in
+    (many-narrow (s .args .b) (s .args .many) (s .pre .0 .2) (s .pre .0 .1), omega arith, s .pre .1 (i .before .loop .g) (i .loop-test .taken))
 
 loop-again : tie.Need-loop-again Inv-loop μ-loop
 unfolding laneNumber
 loop-again c =
-    let s = c .before .before .before .before .before .before .before .before .before in
-    let l = c .before .before .before .before .before .before .loop in
-    let x = c .before .before .before .join .result in
-    let put = take-stored-fields ((s .args .start + l .g) * (s .args .many * s .args .b)) (s .args .many * s .args .b) x (l .octets) (c .before .before .store .last .0)
-    (end (c .before .before .before .before)) (c .before .before .store .ensures) in (
+    let i : tie.In-loop Inv-loop μ-loop = search needs in
+    let put : tie.After-store Inv-loop μ-loop = search needs in
+    let a = begun i .args in
+    let l = i .before .loop in
+    let len = a .many * a .b in
+    let written = take-stored-fields ((a .start + l .g) * len) len (put .before .join .result) (l .octets) (room i) (put .store .ensures) in (
       omega arith,
       omega arith,
-      join-step (s .args .many * s .args .b) (s .args .start) (l .g) (take (s .args .start * (s .args .many * s .args .b)) (s .args .octets .now)) (l .octets)
-          (c .before .before .store .last .0) (laneNumber (s .args .b) (s .args .lanes .now)) (c .before .before .before .join .ensures) (l .inv .2) put,
+      join-step len (a .start) (l .g) (take (a .start * len) (a .octets .now)) (l .octets) (put .store .last .0) (laneNumber (a .b) (a .lanes .now))
+          (put .before .join .ensures) (l .inv .2) written,
     )
-
-same-length : tie.Need-same-length Inv-loop μ-loop
-same-length c = omega arith
 
 returns : tie.Need-returns Inv-loop μ-loop
 returns c =
-    let l = c .before .loop in
-    let end : c .before .before .before .before .args .some ≡ l .g = omega arith in
-    rw end (l .inv .2)
+    let s : tie.Start Inv-loop μ-loop = search needs in
+    let end : s .args .some ≡ c .before .loop .g = omega arith in
+    rw end (c .before .loop .inv .2)
 
 pub join-groups-spec : {M : Type 1} → statement M
 join-groups-spec =
     tie.close
-    (tie.spec
-    Inv-loop
-    μ-loop
-    loop-holds
-    add-store
-    mul-store
-    mul-store-2
-    mul-store-3
-    mul-join
-    join-requires
-    store-requires
-    add-g
-    loop-less
-    loop-again
-    same-length
-    returns)
+    (tie.spec Inv-loop μ-loop loop-holds add-store (λ c. search needs) (λ c. omega (arith, room (search needs))) (λ c. search needs) (λ c. search needs)
+    join-requires (λ c κs. (search needs, room (search needs))) (λ c. search needs) (λ c. search needs) loop-again (λ c. search needs) returns)

@@ -1,127 +1,80 @@
 -- `packing::pack` is right because whole groups, the last one and zeros are all that there is.
 -- Assumes nothing.
 use Prim.Native.Nat.{_+_, _*_, _/_, _≤_}
-use mathlib.Core.Path.{_∙_}
-use native.Mathlib.Nat.{lt-of-le-of-lt}
+use mathlib.Core.Path.{_≡_, _∙_}
 use native.Mathlib.Omega.{arith}
 use lib.ListN.{length}
+use borrow.Author.Needs.{needs}
 use Rattle.definitions.specs.Octets.{packed}
 use Rattle.definitions.proofs.Octets.{coefficientsFit-below}
-use Rattle.packing.proofs.Fields.{groups-places, groups-numbers, part-end, parts-whole, take-stored-fields}
-use Rattle.packing.proofs.Groups.{many-few, many-fits, many-words, many-octets, many-bits, many-last}
-use borrow.Author.Needs.{needs}
+use Rattle.packing.proofs.Fields.{parts-whole, take-stored-fields}
+use Rattle.packing.proofs.Groups.{Group, group-of, many-few, many-last, four-over-fits, four-over-some, groups-within, part-end}
 use Rattle.packing.proofs.pack.Statement.{statement}
 use Rattle.packing.proofs.pack.Tie as tie
 
-mul-size : tie.Need-mul-size
-mul-size c =
-    let s = c .before .before in
-    omega (arith, many-few (s .args .b) (4 / s .args .b) (many-fits (s .args .b)) (s .pre .0))
+group : (s : tie.Start) → Group (s .args .b) 8 (4 / s .args .b * s .args .b) (4 / s .args .b * 8)
+group s = group-of (s .args .b) (4 / s .args .b) (s .pre .0) (four-over-some (s .args .b) (s .pre .0) (s .pre .1))
 
-mul-len : tie.Need-mul-len
-mul-len c = omega (arith, many-fits (c .before .before .args .b))
+sizes : (s : tie.Start) → (4 / s .args .b ≤ 4) × (4 / s .args .b * s .args .b ≤ 4)
+sizes s = let fits = four-over-fits (s .args .b) in (many-few (s .args .b) (4 / s .args .b) fits (s .pre .0), fits)
 
-div-least : tie.Need-div-least
-div-least c =
-    let s = c .before .before in
-    many-octets (s .args .b) (s .pre .0) (s .pre .1)
+abbrev begun : tie.After-least → tie.Start
+begun c = search needs
 
-div-least-2 : tie.Need-div-least-2
-div-least-2 c =
-    let s = c .before .before in
-    many-words (s .args .b) (s .pre .0) (s .pre .1)
+-- the groups' octets and words
+places : (c : tie.After-least) → c .least .result * (4 / begun c .args .b * begun c .args .b) ≤ length (begun c .args .octets .now)
+places c = groups-within (c .least .result) (length (begun c .args .octets .now)) (4 / begun c .args .b * begun c .args .b) (omega arith)
 
-places : (c : tie.After-least) → c .least .result * (4 / c .before .before .before .args .b * c .before .before .before .args .b) ≤ length (c .before .before .before .args .octets .now)
-places c =
-    let s = c .before .before .before in
-    let a = s .args in
-    groups-places (a .b) 8 (4 / a .b * a .b) (4 / a .b * 8) (length (a .octets .now)) (a .words .now) (s .pre .0) (many-octets (a .b) (s .pre .0) (s .pre .1)) (many-words (a .b) (s .pre .0) (s .pre .1)) (many-bits (a .b) (4 / a .b)) (c .least .result) (c .least .ensures)
+numbers : (c : tie.After-least) → c .least .result * (4 / begun c .args .b * 8) ≤ length (begun c .args .words .now)
+numbers c = groups-within (c .least .result) (length (begun c .args .words .now)) (4 / begun c .args .b * 8) (omega arith)
 
-numbers : (c : tie.After-least) → c .least .result * (4 / c .before .before .before .args .b * 8) ≤ length (c .before .before .before .args .words .now)
-numbers c =
-    let s = c .before .before .before in
-    let a = s .args in
-    groups-numbers (a .b) 8 (4 / a .b * a .b) (4 / a .b * 8) (length (a .octets .now)) (a .words .now) (s .pre .0) (many-octets (a .b) (s .pre .0) (s .pre .1)) (many-words (a .b) (s .pre .0) (s .pre .1)) (many-bits (a .b) (4 / a .b)) (c .least .result) (c .least .ensures)
+abbrev least : tie.After-pack-groups → tie.After-least
+least c = search needs
 
--- the octets after the groups
-start : (c : tie.After-pack-groups)
-    → c .before .before .least .result * (4 / c .before .before .before .before .before .args .b * c .before .before .before .before .before .args .b) ≤ length (c .pack-groups .last .1 .1 .1 .0)
-start c = rw (c .pack-groups .kept .1 .1 .1 .0) (places (c .before .before))
+abbrev first : tie.After-least3 → tie.After-pack-groups
+first c = search needs
 
-end : (c : tie.After-gather)
-    → c .before .before .before .before .before .before .before .before .least .result
-    * (4 / c .before .before .before .before .before .before .before .before .before .before .before .args .b * c .before .before .before .before .before .before .before .before .before .before .before .args .b)
-    + c .before .before .least3 .result
-    ≤ length (c .before .before .before .before .before .before .pack-groups .last .1 .1 .1 .0)
-end c = part-end _ (start (c .before .before .before .before .before .before)) (c .before .before .least3 .ensures)
+-- the octets after the groups, and after the last one
+after : (c : tie.After-pack-groups)
+    → least c .least .result * (4 / begun (least c) .args .b * begun (least c) .args .b) ≤ length (c .pack-groups .last .1 .1 .1 .0)
+after c = rw (c .pack-groups .kept .1 .1 .1 .0) (places (least c))
 
-pack-groups-requires : tie.Need-pack-groups-requires
-pack-groups-requires c κs = (omega arith, omega arith, places (c .before), numbers (c .before), c .before .before .before .before .pre .2)
-
-mul-at : tie.Need-mul-at
-mul-at c = record { fits = lt-of-le-of-lt (numbers (c .before .before .before .before)) (omega arith) }
-
-mul-from : tie.Need-mul-from
-mul-from c = record { fits = lt-of-le-of-lt (places (c .before .before .before .before)) (omega arith) }
-
-sub-least : tie.Need-sub-least
-sub-least c = numbers (c .before .before .before .before)
-
-sub-least-2 : tie.Need-sub-least-2
-sub-least-2 c = start (c .before .before .before)
+end : (c : tie.After-least3)
+    → least (first c) .least .result * (4 / begun (least (first c)) .args .b * begun (least (first c)) .args .b) + c .least3 .result
+    ≤ length (first c .pack-groups .last .1 .1 .1 .0)
+end c = part-end _ (after (first c)) (c .least3 .ensures)
 
 gather-requires : tie.Need-gather-requires
 gather-requires c κs =
-    let s = c .before .before .before .before .before .before .before .before .before .before in
-    let count = c .before .before .least2 in
-    (s .pre .0, many-last (s .args .b) (4 / s .args .b) (many-fits (s .args .b)) _ (count .ensures), part-end _ (numbers (c .before .before .before .before .before .before .before)) (count .ensures), s .pre .2)
-
-store-requires : tie.Need-store-requires
-store-requires c κs =
-    let s = c .before .before .before .before .before .before .before .before .before .before .before in
-    (omega (arith, many-fits (s .args .b)), end c)
-
-add-clear-octets : tie.Need-add-clear-octets
-add-clear-octets c = record { fits = lt-of-le-of-lt (end (c .before .before .before .before)) (omega arith) }
+    let s : tie.Start = search needs in
+    let count : tie.After-least2 = search needs in
+    (s .pre .0, many-last (s .args .b) _ (sizes s .1) _ (count .least2 .ensures), part-end _ (numbers (search needs)) (count .least2 .ensures), s .pre .2)
 
 clear-octets-requires : tie.Need-clear-octets-requires
-clear-octets-requires c κs = rw (c .before .before .before .store .kept .0) (end (c .before .before .before .before))
+clear-octets-requires c κs = let put : tie.After-store = search needs in rw (put .store .kept .0) (end (search needs))
 
 returns : tie.Need-returns
 unfolding packed
 returns c =
-    let s = c .before .before .before .before .before .before .before .before .before .before .before .before .before .before .before .before .before .before in
-    let first = c .before .before .before .before .before .before .before .before .before .before .before .before .before .pack-groups in
-    let last = c .before .before .before .before .before .before .store in
-    parts-whole (s .args .b) 8 (4 / s .args .b * s .args .b) (4 / s .args .b * 8) (length (s .args .octets .now)) (s .args .words .now)
-    (s .pre .0) (many-octets (s .args .b) (s .pre .0) (s .pre .1)) (many-words (s .args .b) (s .pre .0) (s .pre .1)) (many-bits (s .args .b) (4 / s .args .b))
-    (c .before .before .before .before .before .before .before .before .before .before .before .before .before .before .before .least .result) (c .before .before .before .before .before .before .before .before .before .before .before .before .before .before .before .least .ensures) (coefficientsFit-below _ (s .args .words .now) (s .pre .2))
-    (c .before .before .before .before .before .before .before .before .before .least3 .result) (c .before .before .before .before .before .before .before .before .before .before .least2 .result) (rw (first .kept .1 .1 .1 .0) at (c .before .before .before .before .before .before .before .before .before .least3 .ensures)) (c .before .before .before .before .before .before .before .before .before .before .least2 .ensures)
-    (first .last .1 .1 .1 .0) (last .last .0) (c .before .before .clear-octets .last .0)
-    (first .ensures) (c .before .before .before .before .before .before .before .gather .ensures)
-    (take-stored-fields _ (c .before .before .before .before .before .before .before .before .before .least3 .result) (c .before .before .before .before .before .before .before .gather .result) (first .last .1 .1 .1 .0) (last .last .0) (end (c .before .before .before .before .before .before .before)) (last .ensures))
-    (last .kept .0 ∙ first .kept .1 .1 .1 .0) (c .before .before .clear-octets .ensures)
+    let s : tie.Start = search needs in
+    let groups : tie.After-pack-groups = search needs in
+    let count : tie.After-least2 = search needs in
+    let rest : tie.After-least3 = search needs in
+    let number : tie.After-gather = search needs in
+    let last : tie.After-store = search needs in
+    let zeros : tie.After-clear-octets = search needs in
+    let kept = groups .pack-groups .kept .1 .1 .1 .0 in
+    parts-whole (group s) _ (s .args .words .now) (least groups .least .result) (least groups .least .ensures) (coefficientsFit-below _ _ (s .pre .2))
+    (rest .least3 .result) (count .least2 .result) (rw kept at (rest .least3 .ensures)) (count .least2 .ensures) _ _ (groups .pack-groups .ensures)
+    (number .gather .ensures) (take-stored-fields _ _ (number .gather .result) _ (end rest) (last .store .ensures)) (last .store .kept .0 ∙ kept)
+    (zeros .clear-octets .ensures)
 
 pub pack-spec : {M : Type 1} → statement M
 pack-spec =
     tie.close
-    (tie.spec
-    (λ c. search needs)
-    mul-size
-    mul-len
-    div-least
-    div-least-2
-    (λ c κs. search needs)
-    pack-groups-requires
-    mul-at
-    mul-from
-    sub-least
-    (λ c κs. search needs)
-    sub-least-2
-    (λ c κs. search needs)
-    gather-requires
-    store-requires
-    add-clear-octets
-    clear-octets-requires
-    (λ c. search needs)
-    returns)
+    (tie.spec (λ c. search needs) (λ c. omega (arith, sizes (search needs))) (λ c. omega (arith, sizes (search needs))) (λ c. group (search needs) .some-places)
+    (λ c. group (search needs) .some-numbers) (λ c κs. search needs)
+    (λ c κs. (search needs, search needs, places (search needs), numbers (search needs), search needs))
+    (λ c. omega (arith, numbers (search needs))) (λ c. omega (arith, places (search needs))) (λ c. numbers (search needs)) (λ c κs. search needs)
+    (λ c. after (search needs)) (λ c κs. search needs) gather-requires (λ c κs. (omega (arith, sizes (search needs)), end (search needs)))
+    (λ c. omega (arith, end (search needs))) clear-octets-requires (λ c. search needs) returns)

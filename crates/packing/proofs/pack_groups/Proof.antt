@@ -1,72 +1,37 @@
--- `packing::pack_groups` calls one loop, at the b that its tests found and with as many coefficients as 32 bits hold.
+-- `packing::pack_groups` is right because it calls one loop, at the b that its tests found and with as many coefficients as 32 bits hold.
 -- Assumes nothing.
+use Prim.Native.Nat.{ℕ, _*_, _/_, _^_, _≤_}
 use mathlib.Core.Path.{_≡_}
+use mathlib.Core.Bool.{true}
 use native.Mathlib.Omega.{arith}
+use lib.ListN.{length}
 use borrow.Author.Needs.{needs}
+use Rattle.definitions.specs.Octets.{coefficientsFit}
 use Rattle.packing.proofs.pack_groups.Statement.{statement}
 use Rattle.packing.proofs.pack_groups.Tie as tie
 
-pack-groups-by-requires : tie.Need-pack-groups-by-requires
-pack-groups-by-requires c κs =
-    let s = c .before .before .before .before in
-    let e : s .args .b ≡ 1 = omega arith in
-    let pre = rw e at (s .pre) in
-    (omega arith, omega arith, omega arith, pre .2, pre .3, pre .4)
+-- what is required, at the b that was found
+required : (s : tie.Start) (k : ℕ) → s .args .b ≡ k
+    → (1 ≤ k) × (k ≤ 4) × (s .args .groups * (4 / k * k) ≤ length (s .args .octets .now)) × (s .args .groups * (4 / k * 8) ≤ length (s .args .words .now))
+    × (coefficientsFit (2 ^ k) (s .args .words .now) ≡ true)
+required s k e = rw e at (s .pre)
 
 returns : tie.Need-returns
-returns c =
-    let e : c .before .before .before .before .before .before .before .args .b ≡ 1 = omega arith in
-    rw e (c .before .before .pack-groups-by .ensures)
-
-pack-groups-by-requires-2 : tie.Need-pack-groups-by-requires-2
-pack-groups-by-requires-2 c κs =
-    let s = c .before .before .before .before .before in
-    let e : s .args .b ≡ 2 = omega arith in
-    let pre = rw e at (s .pre) in
-    (omega arith, omega arith, omega arith, pre .2, pre .3, pre .4)
+returns c = let s : tie.Start = search needs in let e : s .args .b ≡ 1 = omega arith in rw e (search needs)
 
 returns-2 : tie.Need-returns-2
-returns-2 c =
-    let e : c .before .before .before .before .before .before .before .before .args .b ≡ 2 = omega arith in
-    rw e (c .before .before .pack-groups-by2 .ensures)
-
-pack-groups-by-requires-3 : tie.Need-pack-groups-by-requires-3
-pack-groups-by-requires-3 c κs =
-    let s = c .before .before .before .before .before .before in
-    let e : s .args .b ≡ 3 = omega arith in
-    let pre = rw e at (s .pre) in
-    (omega arith, omega arith, omega arith, pre .2, pre .3, pre .4)
+returns-2 c = let s : tie.Start = search needs in let e : s .args .b ≡ 2 = omega arith in rw e (search needs)
 
 returns-3 : tie.Need-returns-3
-returns-3 c =
-    let e : c .before .before .before .before .before .before .before .before .before .args .b ≡ 3 = omega arith in
-    rw e (c .before .before .pack-groups-by3 .ensures)
-
-pack-groups-by-requires-4 : tie.Need-pack-groups-by-requires-4
-pack-groups-by-requires-4 c κs =
-    let s = c .before .before .before .before .before .before in
-    let e : s .args .b ≡ 4 = omega arith in
-    let pre = rw e at (s .pre) in
-    (omega arith, omega arith, omega arith, pre .2, pre .3, pre .4)
+returns-3 c = let s : tie.Start = search needs in let e : s .args .b ≡ 3 = omega arith in rw e (search needs)
 
 returns-4 : tie.Need-returns-4
-returns-4 c =
-    let e : c .before .before .before .before .before .before .before .before .before .args .b ≡ 4 = omega arith in
-    rw e (c .before .before .pack-groups-by4 .ensures)
+returns-4 c = let s : tie.Start = search needs in let e : s .args .b ≡ 4 = omega arith in rw e (search needs)
 
 pub pack-groups-spec : {M : Type 1} → statement M
 pack-groups-spec =
     tie.close
-    (tie.spec
-    pack-groups-by-requires
-    (λ c. search needs)
-    returns
-    pack-groups-by-requires-2
-    (λ c. search needs)
-    returns-2
-    pack-groups-by-requires-3
-    (λ c. search needs)
-    returns-3
-    pack-groups-by-requires-4
-    (λ c. search needs)
-    returns-4)
+    (tie.spec (λ c κs. let r = required (search needs) 1 (omega arith) in (search needs, search needs, search needs, r .2, r .3, r .4)) (λ c. search needs) returns
+    (λ c κs. let r = required (search needs) 2 (omega arith) in (search needs, search needs, search needs, r .2, r .3, r .4)) (λ c. search needs) returns-2
+    (λ c κs. let r = required (search needs) 3 (omega arith) in (search needs, search needs, search needs, r .2, r .3, r .4)) (λ c. search needs) returns-3
+    (λ c κs. let r = required (search needs) 4 (omega arith) in (search needs, search needs, search needs, r .2, r .3, r .4)) (λ c. search needs) returns-4)

@@ -5,6 +5,7 @@ use Prim.Native.Nat.{_-_, _*_, _/_, _≤_}
 use mathlib.Core.Path.{_≡_, sym}
 use native.Mathlib.Omega.{arith}
 use lib.ListN.{length}
+use borrow.Author.Needs.{needs}
 use Rattle.packing.proofs.Unused.{ClearTo, clearTo-step, paddingNumber-clear, paddingNumber-set}
 use Rattle.packing.proofs.padding.Statement.{statement}
 use Rattle.packing.proofs.padding.Tie as tie
@@ -18,52 +19,24 @@ abbrev μ-loop : tie.MeasureT-loop
 loop-holds : tie.Need-loop-holds Inv-loop μ-loop
 loop-holds c = (omega arith, omega arith, λ k from l. let z : ⊥ = omega arith in absurd z)
 
-shared-slice-read-if1 : tie.Need-shared-slice-read-if1 Inv-loop μ-loop
-shared-slice-read-if1 c = omega arith
-
-cast-if1 : tie.Need-cast-if1 Inv-loop μ-loop
-cast-if1 c = omega arith
-
-shr-if1 : tie.Need-shr-if1 Inv-loop μ-loop
-shr-if1 c = omega arith
-
 returns : tie.Need-returns Inv-loop μ-loop
 returns c =
-    let a = c .before .before .before .before .args in
-    let l = c .before .before .before .loop in
-    sym (paddingNumber-set (a .used) (a .octets .now) (l .i) (l .inv .0) (c .before .before .loop-test .taken)
-    (c .before .shared-slice-known .given (l .i) .fits) (rw (← l .inv .1) (c .if1 .taken)))
-
-add-i : tie.Need-add-i Inv-loop μ-loop
-add-i c = omega arith
-
-loop-less : tie.Need-loop-less Inv-loop μ-loop
-loop-less c = omega arith
+    let i : tie.In-loop Inv-loop μ-loop = search needs in
+    let l = i .before .loop in
+    sym (paddingNumber-set _ _ (l .i) (l .inv .0) (i .loop-test .taken) (c .before .shared-slice-known .given (l .i) .fits) (rw (← l .inv .1) (c .if1 .taken)))
 
 loop-again : tie.Need-loop-again Inv-loop μ-loop
 loop-again c =
-    let a = c .before .before .before .before .args in
-    let l = c .before .before .before .loop in
-    (omega arith, omega arith, clearTo-step (a .used) (a .octets .now) (l .i) (l .inv .2) (rw (← l .inv .1) (c .if1 .left)))
+    let s : tie.Start Inv-loop μ-loop = search needs in
+    let at : tie.At-loop Inv-loop μ-loop = search needs in
+    let l = at .loop in
+    (omega arith, omega arith, clearTo-step (s .args .used) (s .args .octets .now) (l .i) (l .inv .2) (rw (← l .inv .1) (c .if1 .left)))
 
 returns-2 : tie.Need-returns-2 Inv-loop μ-loop
-returns-2 c =
-    let a = c .before .before .args in
-    let l = c .before .loop in
-    sym (paddingNumber-clear (a .used) (a .octets .now) (l .i) (l .inv .2) (c .loop-test .left))
+returns-2 c = let l = c .before .loop in sym (paddingNumber-clear _ _ (l .i) (l .inv .2) (c .loop-test .left))
 
 pub padding-spec : {M : Type 1} → statement M
 padding-spec =
     tie.close
-    (tie.spec
-    Inv-loop
-    μ-loop
-    loop-holds
-    shared-slice-read-if1
-    cast-if1
-    shr-if1
-    returns
-    add-i
-    loop-less
-    loop-again
-    returns-2)
+    (tie.spec Inv-loop μ-loop loop-holds (λ c. search needs) (λ c. search needs) (λ c. search needs) returns (λ c. search needs) (λ c. search needs)
+    loop-again returns-2)
