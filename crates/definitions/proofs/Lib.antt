@@ -19,6 +19,7 @@ pub mod Small
 pub mod Calls
 pub mod Exits
 pub mod Order
+pub mod RoundTrips
 pub mod Represents
 pub mod Decryption
 pub mod Zeros
