@@ -20,6 +20,7 @@ pub mod Elements
 pub mod Small
 pub mod Calls
 pub mod Exits
+pub mod RoundTrips
 pub mod Represents
 pub mod Decryption
 pub mod Zeros

@@ -1,135 +1,84 @@
 -- `addition::add` is right because its tests come in the table's order, and the output is written after the last of them alone.
 -- Assumes nothing.
-use Prim.Native.Nat.{_≤_}
-use mathlib.Core.Path.{_≡_, sym, _∙_}
+use mathlib.Core.Path.{_≡_, refl, sym, _∙_}
 use mathlib.Core.Bool.{true}
+use mathlib.Core.List.{[]}
+use lib.ListN.{length}
 use borrow.Author.Needs.{needs}
-use Rattle.definitions.specs.Parameters.{degree, monomialCount, ciphertextLength}
-use Rattle.definitions.specs.Calls.{elementsFit}
-use Rattle.definitions.specs.Demand3.{AcceptedSet}
-use Rattle.definitions.proofs.Parameters.{accepted-set, key-degree-most, mask-degree-most, modulus-positive, modulus-word, qlen-least, qlen-most}
+use borrow.Author.Tests.{not-true, not-false}
+use Rattle.definitions.specs.Parameters.{elementsLength, ciphertextLength}
+use Rattle.definitions.specs.Calls.{addExact, addLeaves, addAnswer, addExit}
+use Rattle.definitions.proofs.Refusals.{firstRefusal-applies, firstRefusal-last}
+use Rattle.definitions.proofs.Calls.{addExact-told}
+use Rattle.definitions.proofs.Exits.{exit-length, exit-refused, exit-accepted}
 use Rattle.parameters.specs.Answers.{setFrom}
-use Rattle.judging.proofs.Judged.{judged-fits, judged-refused}
-use Rattle.addition.proofs.Returns.{Exact, addExit-set, addExit-a-length, addExit-b-length, addExit-sum-length, addExit-a-refused, addExit-b-refused, exact-judged, addExit-accepted, ciphertextLength-count}
+use Rattle.addition.specs.Sums.{bothFit}
+use Rattle.addition.proofs.Sums.{ciphertext-count, qlen-bounds, exact-summands, coefficientSums-octetsFrom}
 use Rattle.addition.proofs.add.Statement.{statement}
 use Rattle.addition.proofs.add.Tie as tie
 
 returns : tie.Need-returns
+unfolding addExit addAnswer
 returns c =
-    let a = c .before .before .before .before .before .args in
-    addExit-set (setFrom (a .p)) (a .a .now) (a .b .now) (a .sum .now) (c .before .refusal .ensures) (c .if1 .taken)
+    let s = c .before .before .before .before .before in
+    exit-length (λ x. addLeaves x (s .args .sum .now)) (setFrom (s .args .p)) _ _ _ (s .pre)
+    (sym (c .before .add-exact .ensures) ∙ not-true _ (c .if1 .taken))
 
-accepted : (c : tie.Else1) → AcceptedSet (setFrom (c .before .before .before .before .before .args .p))
-accepted c = sym (c .before .refusal .ensures) ∙ c .if1 .left
+abbrev start : tie.Else1 → tie.Start
+start c = c .before .before .before .before .before
 
-ciphertext-length-requires : tie.Need-ciphertext-length-requires
-ciphertext-length-requires c κs =
-    let set = accepted-set _ (accepted c) in
-    (key-degree-most _ set, mask-degree-most _ set)
+exact : (c : tie.Else1) → let a = start c .args in addExact (setFrom (a .p)) (length (a .a .now)) (length (a .b .now)) (length (a .sum .now)) ≡ true
+exact c = sym (c .before .add-exact .ensures) ∙ not-false _ (c .if1 .left)
 
--- ---- the lengths
+both-fit-requires : tie.Need-both-fit-requires
+both-fit-requires c κs = let e = addExact-told (setFrom (start c .args .p)) (exact c) in (start c .pre, e .0, e .1)
 
 returns-2 : tie.Need-returns-2
+unfolding addExit addAnswer
 returns-2 c =
-    let a = c .before .before .before .before .before .before .before .args in
-    addExit-a-length (setFrom (a .p)) (a .a .now) (a .b .now) (a .sum .now) (accepted (c .before .before)) (c .before .ciphertext-length .ensures) (c .if2 .taken)
+    let t = c .before .before in
+    let s = start t in
+    exit-refused (λ x. addLeaves x (s .args .sum .now)) (setFrom (s .args .p)) _ _ _ (s .pre) (exact t) 7
+    (firstRefusal-applies 8 _ [] (rw (← c .before .both-fit .ensures) (c .if2 .taken)))
 
-returns-3 : tie.Need-returns-3
-returns-3 c =
-    let a = c .before .before .before .before .before .before .before .before .args in
-    addExit-b-length (setFrom (a .p)) (a .a .now) (a .b .now) (a .sum .now) (accepted (c .before .before .before)) (c .before .before .ciphertext-length .ensures) (c .if3 .taken)
-
-returns-4 : tie.Need-returns-4
-returns-4 c =
-    let a = c .before .before .before .before .before .before .before .before .before .args in
-    addExit-sum-length (setFrom (a .p)) (a .a .now) (a .b .now) (a .sum .now) (accepted (c .before .before .before .before)) (c .before .before .before .ciphertext-length .ensures) (c .if4 .taken)
-
-exact : (c : tie.Else4) → let a = c .before .before .before .before .before .before .before .before .before .args in Exact (setFrom (a .p)) (a .a .now) (a .b .now) (a .sum .now)
-exact c =
-    let e = c .before .before .before .ciphertext-length .ensures in
-    record {
-      set = accepted (c .before .before .before .before);
-      a-length = c .before .before .if2 .left ∙ e;
-      b-length = c .before .if3 .left ∙ e;
-      sum-length = c .if4 .left ∙ e;
-    }
-
--- ---- the coefficients
-
-qlen-bounds : (c : tie.After-octets-of-coefficient) → (1 ≤ c .octets-of-coefficient .result) × (c .octets-of-coefficient .result ≤ 4)
-qlen-bounds c =
-    let set = accepted-set _ (accepted (c .before .before .before .before .before)) in
-    rw (c .octets-of-coefficient .ensures) (qlen-least _ (modulus-positive _ set) (modulus-word _ set), qlen-most _)
-
-judge-requires : tie.Need-judge-requires
-judge-requires c κs = qlen-bounds c
-
-returns-5 : tie.Need-returns-5
-unfolding ciphertextLength
-returns-5 c =
-    let a = c .before .before .before .before .before .before .before .before .before .before .before .before .args in
-    let e = exact (c .before .before .before) in
-    addExit-a-refused (setFrom (a .p)) (a .a .now) (a .b .now) (a .sum .now) e
-    (judged-refused _ (accepted-set _ (e .set)) _ (a .a .now) (e .a-length) (c .before .before .octets-of-coefficient .ensures) (c .before .judge .ensures) (c .if5 .taken))
-
-a-fits : (c : tie.Else5) → elementsFit (setFrom (c .before .before .before .before .before .before .before .before .before .before .before .before .args .p)) (monomialCount (degree (setFrom (c .before .before .before .before .before .before .before .before .before .before .before .before .args .p)))) (c .before .before .before .before .before .before .before .before .before .before .before .before .args .a .now) ≡ true
-unfolding ciphertextLength
-a-fits c =
-    let e = exact (c .before .before .before) in
-    judged-fits _ (accepted-set _ (e .set)) _ _ (e .a-length) (c .before .before .octets-of-coefficient .ensures) (c .before .judge .ensures) (c .if5 .left)
-
-judge-requires-2 : tie.Need-judge-requires-2
-judge-requires-2 c κs = qlen-bounds (c .before .before)
-
-returns-6 : tie.Need-returns-6
-unfolding ciphertextLength
-returns-6 c =
-    let a = c .before .before .before .before .before .before .before .before .before .before .before .before .before .before .args in
-    let e = exact (c .before .before .before .before .before) in
-    addExit-b-refused (setFrom (a .p)) (a .a .now) (a .b .now) (a .sum .now) e
-    (judged-refused _ (accepted-set _ (e .set)) _ (a .b .now) (e .b-length) (c .before .before .before .before .octets-of-coefficient .ensures) (c .before .judge2 .ensures) (c .if6 .taken))
-
-b-fits : (c : tie.Else6) → elementsFit (setFrom (c .before .before .before .before .before .before .before .before .before .before .before .before .before .before .args .p)) (monomialCount (degree (setFrom (c .before .before .before .before .before .before .before .before .before .before .before .before .before .before .args .p)))) (c .before .before .before .before .before .before .before .before .before .before .before .before .before .before .args .b .now) ≡ true
-unfolding ciphertextLength
-b-fits c =
-    let e = exact (c .before .before .before .before .before) in
-    judged-fits _ (accepted-set _ (e .set)) _ _ (e .b-length) (c .before .before .before .before .octets-of-coefficient .ensures) (c .before .judge2 .ensures) (c .if6 .left)
-
--- ---- the sum
+fit : (c : tie.Else2) → let a = start (c .before .before) .args in bothFit (setFrom (a .p)) (a .a .now) (a .b .now) ≡ true
+fit c = sym (c .before .both-fit .ensures) ∙ not-false _ (c .if2 .left)
 
 div-add-octets : tie.Need-div-add-octets
-div-add-octets c = qlen-bounds (c .before .before .before .before) .0
+div-add-octets c =
+    let s = start (c .before .before .before) in
+    rw (c .octets-of-coefficient .ensures) (qlen-bounds (setFrom (s .args .p)) (s .pre) .0)
 
 add-octets-requires : tie.Need-add-octets-requires
 add-octets-requires c κs =
-    let a = c .before .before .before .before .before .before .before .before .before .before .before .before .before .before .before .args in
-    let e = exact (c .before .before .before .before .before .before) in
-    rw (c .before .before .before .before .before .octets-of-coefficient .ensures, c .before .before .before .before .before .before .before .before .before .ciphertext-length .ensures, ciphertextLength-count (setFrom (a .p)) (e .set))
-    (exact-judged (setFrom (a .p)) (a .a .now) (a .b .now) (a .sum .now) e (a-fits (c .before .before .before)) (b-fits (c .before)))
+    let t = c .before .before .before .before in
+    let s = start t in
+    let p = setFrom (s .args .p) in
+    let e = addExact-told p (exact t) in
+    rw (c .before .octets-of-coefficient .ensures, e .2, ciphertext-count p (s .pre))
+    (exact-summands p (s .pre) (s .args .a .now) (s .args .b .now) (e .0) (e .1) (fit (c .before .before)), unfold ciphertextLength elementsLength in refl)
 
-returns-7 : tie.Need-returns-7
-returns-7 c =
-    let a = c .before .before .before .before .before .before .before .before .before .before .before .before .before .before .before .before .before .before .args in
-    let e = exact (c .before .before .before .before .before .before .before .before .before) in
-    addExit-accepted (setFrom (a .p)) (a .a .now) (a .b .now) (a .sum .now) e (a-fits (c .before .before .before .before .before .before)) (b-fits (c .before .before .before .before))
-    (rw (c .before .before .before .before .before .before .before .before .octets-of-coefficient .ensures, c .before .before .before .before .before .before .before .before .before .before .before .before .ciphertext-length .ensures, ciphertextLength-count (setFrom (a .p)) (e .set)) at (c .before .before .add-octets .ensures))
+returns-3 : tie.Need-returns-3
+unfolding addExit addAnswer
+returns-3 c =
+    let k = c .before .before .before .before in
+    let t = k .before .before .before in
+    let s = start t in
+    let p = setFrom (s .args .p) in
+    let sums = rw (k .octets-of-coefficient .ensures, addExact-told p (exact t) .2, ciphertext-count p (s .pre)) at (c .before .before .add-octets .ensures) in
+    rw (sums ∙ coefficientSums-octetsFrom p _ (s .args .a .now) (s .args .b .now))
+    (exit-accepted (λ x. addLeaves x (s .args .sum .now)) p _ _ _ (s .pre) (exact t) (firstRefusal-last 8 _ (rw (fit (k .before)))))
 
 pub add-spec : {M : Type 1} → statement M
 add-spec =
     tie.close
     (tie.spec
-    (λ c κs. search needs)
+    (λ c κs. c .before .before .before .pre)
     returns
-    ciphertext-length-requires
+    both-fit-requires
     returns-2
-    returns-3
-    returns-4
     (λ c κs. search needs)
-    judge-requires
-    returns-5
-    judge-requires-2
-    returns-6
     div-add-octets
     add-octets-requires
     (λ c. search needs)
-    returns-7)
+    returns-3)
