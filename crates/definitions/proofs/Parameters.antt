@@ -2,7 +2,7 @@
 --
 --   headroom-..       headroom p is the largest s with s × B below q
 --   smallBits-..      b bits hold exactly the numbers below ℓ
---   Accepted          what the five tests of an accepted set say, a field for each comparison
+--   Passed            the five tests that an accepted set passes;  Accepted: what they say, a field for each comparison
 --   bitLength-..      q has just that many bits;  qlen-..: and just that many octets
 --   ..-degree-most    dX and dr are at most 2;  modulus-least: q is at least 36
 --   elementsLength-count  the coefficients of so many elements;  smallLength-room: the octets of a small element have room for its bits
@@ -89,18 +89,18 @@ pub record Accepted (p : Parameters) : Type 0 where
   pub message-multiple : p .mlen % smallBits (p .l) ≡ 0
 
 -- the tests that an accepted set passes
-record Passed (p : Parameters) : Type 0 where
-  range : rangeFits p ≡ true
-  ring : ringFits p ≡ true
-  degrees : degreeFits p ≡ true
-  modulus : modulusFits p ≡ true
-  message : messageFits p ≡ true
+pub record Passed (p : Parameters) : Type 0 where
+  pub range : rangeFits p ≡ true
+  pub ring : ringFits p ≡ true
+  pub degrees : degreeFits p ≡ true
+  pub modulus : modulusFits p ≡ true
+  pub message : messageFits p ≡ true
 
 pub setTests-numbered : (p : Parameters) → Numbered (setTests p)
 unfolding setTests
 setTests-numbered p = (omega arith, (omega arith, (omega arith, (omega arith, (omega arith, tt)))))
 
-passed-set : (p : Parameters) → firstRefusal (setTests p) ≡ 0 → Passed p
+pub passed-set : (p : Parameters) → firstRefusal (setTests p) ≡ 0 → Passed p
 unfolding setTests
 passed-set p e =
     let a = firstRefusal-passed 1 _ _ (omega arith) e in

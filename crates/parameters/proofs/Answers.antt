@@ -1,12 +1,31 @@
--- What the tests of a set answer: the number of the limits' answer is that of tests 1 to 5.
+-- What the constructor's answer tells of the set that the six numbers name.
+--
+--   checked-accepted     an accepted set passes every test, and is the one named
+--   checked-refused      a refusal is the number of the first test that applies, and not 0
 -- Assumes nothing.
-use mathlib.Core.Path.{_≡_, ap, _∙_}
-use mathlib.Core.List.{[], append-nil}
-use Rattle.definitions.specs.Refusals.{number, firstRefusal}
-use Rattle.definitions.specs.Parameters.{Parameters, setTests, limitsAnswer}
-use Rattle.definitions.proofs.Refusals.{number-answer}
-use Rattle.definitions.proofs.Parameters.{setTests-numbered}
+use Prim.Native.Nat.{ℕ, zero, suc}
+use native.Mathlib.Omega.{arith}
+use mathlib.Core.Path.{_≡_, sym, ap, _∙_}
+use mathlib.Core.List.{[]}
+use Rattle.definitions.specs.Refusals.{untouched, firstRefusal, answerOf, answer}
+use Rattle.definitions.specs.Parameters.{Parameters, setTests}
+use Rattle.definitions.specs.Demand3.{AcceptedSet}
+use Rattle.definitions.proofs.Refusals.{answer-accepted-only}
+use Rattle.parameters.specs.Answers.{setFrom, setAnswer, checkedAs}
+use Rattle.parameters.specs.declared.Parameters as Struct
+use Rattle.parameters.specs.declared.Checked.{Checked}
 
-pub limits-number : (p : Parameters) → number (limitsAnswer p) ≡ firstRefusal (setTests p)
-unfolding limitsAnswer
-limits-number p = number-answer (setTests p) [] _ (setTests-numbered p) ∙ ap firstRefusal (append-nil (setTests p))
+untouched-only : {A : Type 0} (m k : ℕ) (a : A) → untouched k ≡ answerOf m 0 a → (k ≡ m) × (k ≡ 0 → ⊥)
+untouched-only zero k a e = let z : _≡_ {A = ℕ} 0 1 = cc in let w : ⊥ = omega arith in absurd w
+untouched-only (suc m) k a e = let same : k ≡ suc m = cc in (same, λ z. omega arith)
+
+module _ (s : Parameters) {r : Checked} (e : checkedAs r ≡ setAnswer s) where
+  pub checked-accepted : {p : Struct.Parameters} → r ≡ Checked.Accepted p → AcceptedSet s × (setFrom p ≡ s)
+  unfolding setAnswer
+  checked-accepted {p} same =
+      let only = answer-accepted-only (setTests s) [] s (setFrom p) (sym e ∙ ap checkedAs same) in
+      (only .0, sym (only .2))
+
+  pub checked-refused : {k : ℕ} → r ≡ Checked.Refused k → (k ≡ firstRefusal (setTests s)) × (k ≡ 0 → ⊥)
+  unfolding setAnswer answer firstRefusal
+  checked-refused {k} same = untouched-only (firstRefusal (setTests s)) k s (sym (ap checkedAs same) ∙ e)

@@ -1,19 +1,21 @@
--- 01's values behind the declared types: the set that a struct holds, and the number and values of each case of each enum.
+-- 01's values behind the declared types.
 --
---   setFrom          the set of 01 that the struct's six numbers name
+--   setFrom          the set of 01 that the struct's six numbers name;  limitsFrom: the bound and the headroom
 --   setAnswer        the set itself, or the refusal: what a constructor answers
 --   checkedAs        Accepted: 0 and the set; Refused: its number
---   limitsAs         Accepted: 0, the bound and the headroom; Refused: its number
 -- Assumes nothing.
 use mathlib.Core.List.{[]}
 use Rattle.definitions.specs.Refusals.{Answer, untouched, accepted, answer}
 use Rattle.definitions.specs.Parameters.{Parameters, Limits, setTests}
 use Rattle.parameters.specs.declared.Parameters as Struct
 use Rattle.parameters.specs.declared.Checked.{Checked}
-use Rattle.parameters.specs.declared.LimitsAnswer.{LimitsAnswer}
+use Rattle.parameters.specs.declared.SetLimits.{SetLimits}
 
 abbrev pub setFrom : Struct.Parameters → Parameters
 setFrom p = record { l = p .l; q = p .q; n = p .n; dx = p .dx; dr = p .dr; mlen = p .mlen }
+
+abbrev pub limitsFrom : SetLimits → Limits
+limitsFrom x = record { bound = x .bound; headroom = x .headroom }
 
 unfoldable pub setAnswer : Parameters → Answer Parameters
 setAnswer p = answer (setTests p) [] p
@@ -21,7 +23,3 @@ setAnswer p = answer (setTests p) [] p
 abbrev pub checkedAs : Checked → Answer Parameters
 checkedAs (Checked.Accepted p) = accepted (setFrom p)
 checkedAs (Checked.Refused k) = untouched k
-
-abbrev pub limitsAs : LimitsAnswer → Answer Limits
-limitsAs (LimitsAnswer.Accepted x) = accepted (record { bound = x .bound; headroom = x .headroom })
-limitsAs (LimitsAnswer.Refused k) = untouched k

@@ -1,14 +1,14 @@
 // A parameter set (01, "The parameter set"): its tests, its noise bound and headroom, and the bits of a small coefficient.
-// A set that fails a test is refused with 1 to 5, the lowest that applies; nothing wraps, whatever the six numbers are.
-// The contracts cite the definitions' setTests and limitsAnswer, through specs/Answers.antt, and smallBits. Every call that takes a set
-// tests it by `refusal`.
+// `Parameters::new` refuses a set that fails a test with 1 to 5, the lowest that applies; nothing wraps, whatever the six numbers are. It is
+// the only way to a set that is worked with: whatever takes one requires AcceptedSet of it. The contracts cite the definitions' setTests,
+// limitsOf and smallBits, through specs/Answers.antt.
 pub mod refusals;
 mod tests;
 
 ghost use mathlib.Core.Path.{_≡_};
-ghost use Rattle.definitions.specs.Refusals.{firstRefusal};
-ghost use Rattle.definitions.specs.Parameters.{smallBits, setTests, limitsAnswer};
-ghost use Rattle.parameters.specs.Answers.{setFrom, setAnswer, checkedAs, limitsAs};
+ghost use Rattle.definitions.specs.Parameters.{smallBits, limitsOf};
+ghost use Rattle.definitions.specs.Demand3.{AcceptedSet};
+ghost use Rattle.parameters.specs.Answers.{setFrom, setAnswer, checkedAs, limitsFrom};
 
 pub struct Parameters {
     pub l: u32,
@@ -31,12 +31,11 @@ pub struct SetLimits {
     pub headroom: u32,
 }
 
-pub enum LimitsAnswer {
-    Accepted(SetLimits),
-    Refused(u32),
-}
-
 impl Parameters {
+    pub const L_LEAST: u32 = 2;
+
+    pub const L_MOST: u32 = 16;
+
     pub const N_LEAST: u32 = 2;
 
     pub const N_MOST: u32 = 4096;
@@ -58,48 +57,35 @@ impl Parameters {
             dr,
             mlen,
         };
-        let refused = refusal(p);
-        if refused == 0 {
-            return Checked::Accepted(p);
+        if !tests::range_fits(p) {
+            return Checked::Refused(refusals::RANGE);
         }
-        Checked::Refused(refused)
+        if !tests::ring_fits(p) {
+            return Checked::Refused(refusals::RING);
+        }
+        if !tests::degree_fits(p) {
+            return Checked::Refused(refusals::DEGREE);
+        }
+        if !tests::modulus_fits(p) {
+            return Checked::Refused(refusals::MODULUS);
+        }
+        if !tests::message_fits(p) {
+            return Checked::Refused(refusals::MESSAGE_SIZE);
+        }
+        Checked::Accepted(p)
     }
 }
 
-// The number of the first test of 1 to 5 that the set fails; 0 where it is accepted.
-pub fn refusal(p: Parameters) -> u32
-    ensures { λ r. ⌜ r ≡ firstRefusal (setTests (setFrom p)) ⌝ }
+// The noise bound and the headroom.
+pub fn limits(p: Parameters) -> SetLimits
+    requires { ⌜ AcceptedSet (setFrom p) ⌝ }
+    ensures { λ r. ⌜ limitsFrom r ≡ limitsOf (setFrom p) ⌝ }
 {
-    match limits(p) {
-        LimitsAnswer::Accepted(_) => 0,
-        LimitsAnswer::Refused(k) => k,
-    }
-}
-
-// The noise bound and the headroom, or the refusal.
-pub fn limits(p: Parameters) -> LimitsAnswer
-    ensures { λ r. ⌜ limitsAs r ≡ limitsAnswer (setFrom p) ⌝ }
-{
-    if !tests::range_fits(p) {
-        return LimitsAnswer::Refused(refusals::RANGE);
-    }
-    if !tests::ring_fits(p) {
-        return LimitsAnswer::Refused(refusals::RING);
-    }
-    if !tests::degree_fits(p) {
-        return LimitsAnswer::Refused(refusals::DEGREE);
-    }
     let bound = tests::capped_bound(p);
-    if !tests::modulus_fits(p.q, bound) {
-        return LimitsAnswer::Refused(refusals::MODULUS);
-    }
-    if !tests::message_fits(p) {
-        return LimitsAnswer::Refused(refusals::MESSAGE_SIZE);
-    }
-    LimitsAnswer::Accepted(SetLimits {
+    SetLimits {
         bound,
         headroom: (p.q - 1) / bound,
-    })
+    }
 }
 
 // b: the bits of a small coefficient.

@@ -2,38 +2,33 @@
 use super::Parameters;
 use super::bits;
 ghost use mathlib.Core.Path.{_≡_};
-ghost use mathlib.Core.Bool.{true, _&&_};
-ghost use Prim.Native.Nat.{_≤_, min};
-ghost use lib.Dec.{leb, ltb};
-ghost use Rattle.definitions.specs.Parameters.{isDegree, rangeFits, ringFits, degreeFits, messageFits, bound};
+ghost use mathlib.Core.Bool.{true};
+ghost use Prim.Native.Nat.{min};
+ghost use Rattle.definitions.specs.Parameters.{isDegree, rangeFits, ringFits, degreeFits, modulusFits, messageFits, bound};
 ghost use Rattle.parameters.specs.Answers.{setFrom};
 
 pub fn range_fits(p: Parameters) -> bool
     ensures { λ r. ⌜ r ≡ rangeFits (setFrom p) ⌝ }
 {
-    let l = p.l;
-    match l {
-        2 | 4 | 8 | 16 => true,
-        _ => false,
-    }
+    (p.l == Parameters::L_LEAST) | ((p.l == 4) | ((p.l == 8) | (p.l == Parameters::L_MOST)))
 }
 
 pub fn ring_fits(p: Parameters) -> bool
     ensures { λ r. ⌜ r ≡ ringFits (setFrom p) ⌝ }
 {
-    Parameters::N_LEAST <= p.n && p.n <= Parameters::N_MOST
+    (Parameters::N_LEAST <= p.n) & (p.n <= Parameters::N_MOST)
 }
 
 pub fn degree_fits(p: Parameters) -> bool
     ensures { λ r. ⌜ r ≡ degreeFits (setFrom p) ⌝ }
 {
-    is_degree(p.dx) && is_degree(p.dr)
+    is_degree(p.dx) & is_degree(p.dr)
 }
 
 fn is_degree(d: u32) -> bool
     ensures { λ r. ⌜ r ≡ isDegree d ⌝ }
 {
-    Parameters::DEGREE_LEAST <= d && d <= Parameters::DEGREE_MOST
+    (Parameters::DEGREE_LEAST <= d) & (d <= Parameters::DEGREE_MOST)
 }
 
 // What stands for B where B is more: no q that a set may have is larger.
@@ -64,16 +59,19 @@ pub fn capped_bound(p: Parameters) -> u32
     sum as u32
 }
 
-// Test 4, where bound is B or, with B at least 2^31, 2^31.
-pub fn modulus_fits(q: u32, bound: u32) -> bool
-    ensures { λ r. ⌜ r ≡ (leb q 2147483647 && ltb bound q) ⌝ }
+// The bound is compared up to 2^31, which no q reaches.
+pub fn modulus_fits(p: Parameters) -> bool
+    requires { ⌜ rangeFits (setFrom p) ≡ true ⌝ }
+    requires { ⌜ ringFits (setFrom p) ≡ true ⌝ }
+    requires { ⌜ degreeFits (setFrom p) ≡ true ⌝ }
+    ensures { λ r. ⌜ r ≡ modulusFits (setFrom p) ⌝ }
 {
-    q <= Parameters::Q_MOST && bound < q
+    (p.q <= Parameters::Q_MOST) & (capped_bound(p) < p.q)
 }
 
 pub fn message_fits(p: Parameters) -> bool
     ensures { λ r. ⌜ r ≡ messageFits (setFrom p) ⌝ }
 {
     let b = bits(p.l);
-    (p.mlen as u64) <= (p.n as u64) * (b as u64) && p.mlen % b == 0
+    ((p.mlen as u64) <= (p.n as u64) * (b as u64)) & (p.mlen % b == 0)
 }

@@ -1,128 +1,35 @@
--- `limits` meets its contract: each test that passed, or the one that failed, decides the list of tests as far as it goes. Test 4 is
--- made with the lesser of B and 2^31; where it passes, B is the lesser.
+-- `limits` computes the definitions: the bound of an accepted set is below q, so it is not cut off at 2^31, and it is not 0.
 -- Assumes nothing.
-use Prim.Native.Nat.{ℕ}
-use mathlib.Core.Path.{_≡_, sym, ap, _∙_}
-use mathlib.Core.Bool.{Bool, true, false, not, _&&_}
-use lib.Dec.{leb, ltb}
+use mathlib.Core.Path.{_≡_, _∙_}
 use native.Mathlib.Omega.{arith}
-use borrow.Author.Needs.{needs}
-use borrow.Author.Tests.{not-true, not-false}
-use Rattle.definitions.specs.Refusals.{firstRefusal, answer}
-use Rattle.definitions.specs.Parameters.{Parameters, rangeFits, ringFits, degreeFits, modulusFits, bound, headroom, setTests, limitsAnswer}
+use Rattle.definitions.specs.Parameters.{bound, headroom}
+use Rattle.definitions.proofs.Parameters.{bound-positive, Passed, passed-set}
 use Rattle.parameters.specs.Answers.{setFrom}
-use Rattle.parameters.proofs.NoiseBound.{modulus-capped, modulusFits-within, bound-uncapped}
-use Rattle.definitions.proofs.Parameters.{bound-positive}
+use Rattle.parameters.proofs.NoiseBound.{bound-uncapped, modulusFits-within}
 use Rattle.parameters.proofs.limits.Statement.{statement}
 use Rattle.parameters.proofs.limits.Tie as tie
 
--- a function's answer to a test, and the branch on it, decide the test
-passed : {answer test : Bool} → answer ≡ test → not answer ≡ false → test ≡ true
-passed {answer} e f = sym e ∙ not-false answer f
+capped-bound-requires : tie.Need-capped-bound-requires
+capped-bound-requires c κs = let t = passed-set _ (c .pre) in (t .range, (t .ring, t .degrees))
 
-failed : {answer test : Bool} → answer ≡ test → not answer ≡ true → test ≡ false
-failed {answer} e f = sym e ∙ not-true answer f
+abbrev called : tie.After-struct-known → tie.After-capped-bound
+called c = c .before
 
--- ---- the tests that passed, at the place after each
+passed : (c : tie.After-struct-known) → Passed (setFrom (called c .before .args .p))
+passed c = passed-set _ (called c .before .pre)
 
-range-passed : (c : tie.Else1) → rangeFits (setFrom (c .before .before .args .p)) ≡ true
-range-passed c = passed (c .before .range-fits .ensures) (c .if1 .left)
+bound-is : (c : tie.After-struct-known) → called c .capped-bound .result ≡ bound (setFrom (called c .before .args .p))
+bound-is c = called c .capped-bound .ensures ∙ bound-uncapped _ (passed c .modulus)
 
-ring-passed : (c : tie.Else2) → ringFits (setFrom (c .before .before .before .before .args .p)) ≡ true
-ring-passed c = passed (c .before .ring-fits .ensures) (c .if2 .left)
+sub-t3 : tie.Need-sub-t3
+sub-t3 c = omega (arith, modulusFits-within _ (passed c .modulus))
 
-degree-passed : (c : tie.Else3) → degreeFits (setFrom (c .before .before .before .before .before .before .args .p)) ≡ true
-degree-passed c = passed (c .before .degree-fits .ensures) (c .if3 .left)
-
--- test 4 with the capped bound is test 4
-set-at : (c : tie.After-modulus-fits) → Parameters
-set-at c = setFrom (c .before .before .before .before .before .before .before .before .args .p)
-
-modulus-is : (c : tie.After-modulus-fits) → c .modulus-fits .result ≡ modulusFits (set-at c)
-unfolding set-at
-modulus-is c =
-    c .modulus-fits .ensures
-    ∙ ap (λ (b : ℕ). leb (set-at c .q) 2147483647 && ltb b (set-at c .q)) (c .before .capped-bound .ensures)
-    ∙ sym (modulus-capped (set-at c))
-
-modulus-passed : (c : tie.Else4) → modulusFits (set-at (c .before)) ≡ true
-modulus-passed c = passed (modulus-is (c .before)) (c .if4 .left)
-
--- ---- the needs
+div-t4 : tie.Need-div-t4
+div-t4 c = omega (arith, bound-is c, bound-positive _ (passed c .range))
 
 returns : tie.Need-returns
-unfolding limitsAnswer answer firstRefusal setTests
-returns c = rw (failed (c .before .range-fits .ensures) (c .if1 .taken))
-
-returns-2 : tie.Need-returns-2
-unfolding limitsAnswer answer firstRefusal setTests
-returns-2 c = rw (range-passed (c .before .before), failed (c .before .ring-fits .ensures) (c .if2 .taken))
-
-returns-3 : tie.Need-returns-3
-unfolding limitsAnswer answer firstRefusal setTests
-returns-3 c =
-    let ring = c .before .before in
-    rw (range-passed (ring .before .before), ring-passed ring, failed (c .before .degree-fits .ensures) (c .if3 .taken))
-
-capped-bound-requires : tie.Need-capped-bound-requires
-capped-bound-requires c κs = (range-passed (c .before .before .before .before), (ring-passed (c .before .before), degree-passed c))
-
-returns-4 : tie.Need-returns-4
-unfolding limitsAnswer answer firstRefusal setTests set-at
-returns-4 c =
-    let degree = c .before .before .before in
-    let ring = degree .before .before in
-    rw
-    (range-passed (ring .before .before), ring-passed ring, degree-passed degree, failed (modulus-is (c .before)) (c .if4 .taken))
-
-returns-5 : tie.Need-returns-5
-unfolding limitsAnswer answer firstRefusal setTests set-at
-returns-5 c =
-    let modulus = c .before .before in
-    let degree = modulus .before .before .before in
-    let ring = degree .before .before in
-    rw (
-      range-passed (ring .before .before),
-      ring-passed ring,
-      degree-passed degree,
-      modulus-passed modulus,
-      failed (c .before .message-fits .ensures) (c .if5 .taken),
-    )
-
-bound-is : (c : tie.Else4) → c .before .before .capped-bound .result ≡ bound (set-at (c .before))
-unfolding set-at
-bound-is c = c .before .before .capped-bound .ensures ∙ bound-uncapped (set-at (c .before)) (modulus-passed c)
-
-sub-t5 : tie.Need-sub-t5
-unfolding set-at
-sub-t5 c =
-    let modulus = c .before .before .before in
-    omega (arith, modulusFits-within (set-at (modulus .before)) (modulus-passed modulus))
-
-div-t6 : tie.Need-div-t6
-unfolding set-at
-div-t6 c =
-    let modulus = c .before .before .before in
-    let range = modulus .before .before .before .before .before .before .before in
-    omega (arith, bound-is modulus, bound-positive _ (range-passed range))
-
-returns-6 : tie.Need-returns-6
-unfolding limitsAnswer answer firstRefusal setTests headroom set-at
-returns-6 c =
-    let modulus = c .before .before .before in
-    let degree = modulus .before .before .before in
-    let ring = degree .before .before in
-    rw (
-      range-passed (ring .before .before),
-      ring-passed ring,
-      degree-passed degree,
-      modulus-passed modulus,
-      passed (c .before .before .message-fits .ensures) (c .before .if5 .left),
-      bound-is modulus,
-    )
+unfolding headroom
+returns c = rw (bound-is c)
 
 pub limits-spec : {M : Type 1} → statement M
-limits-spec =
-    tie.close
-    (tie.spec (λ c κs. search needs) returns (λ c κs. search needs) returns-2 (λ c κs. search needs) returns-3 capped-bound-requires
-    (λ c κs. search needs) returns-4 (λ c κs. search needs) returns-5 sub-t5 div-t6 returns-6)
+limits-spec = tie.close (tie.spec capped-bound-requires sub-t3 div-t4 returns)

@@ -1,14 +1,13 @@
--- `modulus_fits` meets its contract: the two comparisons are those of the definition.
+-- `modulus_fits`: test 4 sees no difference between B and the lesser of B and 2^31.
 -- Assumes nothing.
-use borrow.Author.Tests.{le-leb, lt-leb}
+use mathlib.Core.Path.{sym}
+use borrow.Author.Needs.{needs}
+use Rattle.parameters.proofs.NoiseBound.{modulus-capped}
 use Rattle.parameters.proofs.tests.modulus_fits.Statement.{statement}
 use Rattle.parameters.proofs.tests.modulus_fits.Tie as tie
 
 returns : tie.Need-returns
-returns c = rw (le-leb _ _ (c .if1 .taken))
-
-returns-2 : tie.Need-returns-2
-returns-2 c = rw (lt-leb _ _ (c .if1 .left))
+returns c = rw (c .before .capped-bound .ensures) (sym (modulus-capped _))
 
 pub modulus-fits-spec : {M : Type 1} → statement M
-modulus-fits-spec = tie.close (tie.spec returns returns-2)
+modulus-fits-spec = tie.close (tie.spec (λ c κs. search needs) returns)
