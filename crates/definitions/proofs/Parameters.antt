@@ -4,20 +4,22 @@
 --   smallBits-..      b bits hold exactly the numbers below ℓ
 --   Accepted          what the five tests of an accepted set say, a field for each comparison
 --   bitLength-..      q has just that many bits;  qlen-..: and just that many octets
---   ..-degree-most    dX and dr are at most 2
+--   ..-degree-most    dX and dr are at most 2;  modulus-least: q is at least 36
 --   elementsLength-count  the coefficients of so many elements;  smallLength-room: the octets of a small element have room for its bits
 -- Assumes nothing.
 use Prim.Native.Nat.{ℕ, suc, _+_, _-_, _*_, _/_, _%_, _^_, _≤_, _<_}
 use mathlib.Core.Path.{_≡_, refl, sym, subst}
 use mathlib.Core.Logic.{_⊎_, inl, inr, ⊎-elim}
 use mathlib.Core.Bool.{true}
-use native.Mathlib.Nat.{div-add-mod', div-mul-le-self, mul-div-cancel, le-div-iff-mul-le, lt-of-lt-of-le}
+use native.Mathlib.Nat.{div-add-mod', div-mul-le-self, mul-div-cancel, le-div-iff-mul-le, lt-of-lt-of-le, mul-le-mul, mul-le-mul-left, pow-le-pow-left, one-le-pow}
 use native.Mathlib.Omega.{arith}
 use borrow.Author.Tests.{eqb-true, leb-true, ltb-true, not-false}
 use lib.Count.{leadingZeros, leading-top, leading-length}
 use lib.Pow.{pow-mono}
 use Rattle.definitions.specs.Refusals.{firstRefusal}
-use Rattle.definitions.specs.Parameters.{Parameters, smallBits, bound, headroom, rangeFits, ringFits, isDegree, degreeFits, modulusFits, messageFits, setTests, bitLength, qlen, smallLength, secretLength, elementsLength}
+use Rattle.definitions.specs.Sequences.{sum}
+use Rattle.definitions.specs.Parameters.{Parameters, degree, smallBits, termSum, bound, headroom, rangeFits, ringFits, isDegree, degreeFits, modulusFits, messageFits, setTests, bitLength, qlen, smallLength, secretLength, elementsLength}
+use Rattle.definitions.proofs.Sums.{sum-append}
 use Rattle.definitions.proofs.Powers.{pow-octets}
 use Rattle.definitions.proofs.Tests.{both-true, either-true}
 use Rattle.definitions.proofs.Refusals.{Numbered, firstRefusal-passed}
@@ -183,6 +185,26 @@ qlen-bits q =
 pub qlen-holds : (q : ℕ) → q < 2 ^ 32 → q < 256 ^ qlen q
 qlen-holds q h = lt-of-lt-of-le (bitLength-above q h) (qlen-bits q)
 
+-- ---- the least terms of an accepted set's bound: 1, 4 and 12
+
+degree-least : (p : Parameters) → Accepted p → 2 ≤ degree p
+degree-least p a = ⊎-elim (λ e. by-mask (omega arith)) (λ e. by-mask (omega arith)) (a .key-degree)
+  where
+    by-mask : 1 ≤ p .dx → 2 ≤ degree p
+    by-mask l = ⊎-elim (λ e. omega arith) (λ e. omega arith) (a .mask-degree)
+
+sum-three : (f : ℕ → ℕ) {d : ℕ} → 2 ≤ d → f 0 + f 1 + f 2 ≤ sum (suc d) f
+sum-three f {d} l =
+    let e : 3 + (d - 2) ≡ suc d = omega arith in
+    subst (λ (n : ℕ). f 0 + f 1 + f 2 ≤ sum n f) e (rw (sum-append 3 (d - 2) f) (unfold sum in omega arith))
+
+termSum-least : (p : Parameters) → Accepted p → 17 ≤ termSum p
+unfolding termSum
+termSum-least p a = omega (arith, sum-three (λ k. (k + 1) * p .n ^ k * (p .l - 1) ^ (k + 1)) (degree-least p a), term 0, term 1, term 2)
+  where
+    term : (k : ℕ) → (k + 1) * 2 ^ k * 1 ≤ (k + 1) * p .n ^ k * (p .l - 1) ^ (k + 1)
+    term k = mul-le-mul (mul-le-mul-left (k + 1) (pow-le-pow-left (a .ring-least) k)) (one-le-pow (k + 1) (p .l - 1) (omega (arith, range-least p (a .range))))
+
 -- ---- the lengths of an accepted set
 
 module _ (p : Parameters) (a : Accepted p) where
@@ -194,6 +216,11 @@ module _ (p : Parameters) (a : Accepted p) where
 
   pub modulus-positive : 0 < p .q
   modulus-positive = omega (arith, a .modulus-above)
+
+  -- the least bound is 35, at l 2, n 2 and degree 2
+  pub modulus-least : 36 ≤ p .q
+  unfolding bound
+  modulus-least = omega (arith, a .modulus-above, mul-le-mul (range-least p (a .range)) (termSum-least p a), range-least p (a .range))
 
   pub modulus-word : p .q < 2 ^ 32
   modulus-word = omega (arith, a .modulus-most)

@@ -16,7 +16,7 @@ use Rattle.definitions.specs.Monomials.{value}
 use Rattle.definitions.specs.Octets.{coefficientAt, encoded}
 use Rattle.definitions.specs.Draws.{secretDrawn}
 use Rattle.definitions.specs.Calls.{keyDraws, keyPairOf}
-use Rattle.definitions.proofs.Parameters.{Accepted, accepted-set, modulus-positive, modulus-word, qlen-least, qlen-most, key-degree-most}
+use Rattle.definitions.proofs.Parameters.{Accepted, accepted-set, modulus-positive, modulus-least, modulus-word, qlen-least, qlen-most, key-degree-most}
 use Rattle.definitions.proofs.Monomials.{monomialCount-pos}
 use Rattle.definitions.proofs.MadeKeys.{keyDraws-below}
 use Rattle.ring.specs.Work.{part}
@@ -68,7 +68,7 @@ module _ (p : Parameters) (random secret public work : List ℕ) (ready : Ready 
         terms-are = et ∙ rw (el, ec, ready .drawn)
 
         pub ready-constant : length terms ≡ length public → length words ≡ length work
-            → (Sizes (p .n) len words × (0 < p .dx) × (p .dx ≤ 4) × (length terms ≡ monomialCount (p .dx) * p .n * len) × (0 < p .q) × (p .q < 2147483648))
+            → (Sizes (p .n) len words × (0 < p .dx) × (p .dx ≤ 4) × (length terms ≡ monomialCount (p .dx) * p .n * len) × (16 ≤ p .q) × (p .q < 2147483648))
             × (((m : ℕ) → m < monomialCount (p .dx) * p .n → coefficientAt len terms m < p .q) × (InRing 16 (p .n) (part words 0) × InRing 16 (p .n) (part words (p .n))))
         ready-constant lt lw = (
           (
@@ -76,7 +76,7 @@ module _ (p : Parameters) (random secret public work : List ℕ) (ready : Ready 
             degree-least,
             omega (arith, key-degree-most p set),
             lt ∙ public-exact,
-            modulus-positive p set,
+            omega (arith, modulus-least p set),
             omega (arith, set .modulus-most),
           ),
           (

@@ -71,7 +71,7 @@ fn write_secret(random: &[u8], p: Parameters, secret: &mut [u8], work: &mut [u32
 
 // The octets of the constant that makes the secret in the first two parts of the work words a zero of a key whose constant is 0.
 fn write_constant(public: &mut [u8], d: usize, n: usize, qlen: usize, q: u32, work: &mut [u32])
-    requires { ⌜ Sizes n qlen (now work) × (0 < d) × (d ≤ 4) × (length (now public) ≡ monomialCount d * n * qlen) × (0 < q) × (q < 2147483648) ⌝ }
+    requires { ⌜ Sizes n qlen (now work) × (0 < d) × (d ≤ 4) × (length (now public) ≡ monomialCount d * n * qlen) × (16 ≤ q) × (q < 2147483648) ⌝ }
     requires { ⌜ ((m : ℕ) → m < monomialCount d * n → coefficientAt qlen (now public) m < q) ⌝ }
     requires { ⌜ InRing 16 n (part (now work) 0) × InRing 16 n (part (now work) n) ⌝ }
     ensures { λ _. ⌜ now (public .exit) ≡ take (length (now (public .entry)) - n * qlen) (now (public .entry)) ++ encoded qlen (tabulate n (λ k. (q - value n d (flat n qlen (now (public .entry))) (part (now (work .entry)) 0) (part (now (work .entry)) n) k % q) % q)) ⌝ }
