@@ -5,7 +5,7 @@
 --   judged-fits       0 of octets: each is below q
 --   judged-refused    any other number: some is not
 -- Assumes nothing.
-use Prim.Native.Nat.{ℕ, _/_}
+use Prim.Native.Nat.{ℕ, _/_, _<_}
 use mathlib.Core.Path.{_≡_, refl, sym, ap, _∙_}
 use mathlib.Core.Bool.{Bool, true, false}
 use mathlib.Core.List.{List, []}
@@ -13,9 +13,10 @@ use borrow.Author.Tests.{not-false}
 use lib.Dec.{lit<}
 use lib.ListN.{length}
 use Rattle.definitions.specs.Parameters.{Parameters, qlen, elementsLength}
-use Rattle.definitions.specs.Octets.{decoded, coefficientsFit}
+use Rattle.definitions.specs.Octets.{coefficientAt, decoded, coefficientsFit}
 use Rattle.definitions.specs.Calls.{decodedElements, elementsFit}
 use Rattle.definitions.proofs.Refusals.{firstRefusal-passed, firstRefusal-last}
+use Rattle.definitions.proofs.Octets.{length-decoded, getD-decoded, coefficientsFit-true}
 use Rattle.definitions.proofs.Parameters.{Accepted, elementsLength-count}
 use Rattle.judging.specs.Reading.{coefficientNumber, fitNumber}
 
@@ -39,6 +40,13 @@ fitNumber-fits q xs = number-fits (coefficientsFit q xs)
 pub fitNumber-refused : (q : ℕ) (xs : List ℕ) → (fitNumber q xs ≡ 0 → ⊥) → coefficientsFit q xs ≡ false
 unfolding fitNumber
 fitNumber-refused q xs = number-refused (coefficientsFit q xs)
+
+pub fitNumber-below : (q qlen count : ℕ) (octets : List ℕ) → ((m : ℕ) → m < count → coefficientAt qlen octets m < q) → fitNumber q (decoded qlen count octets) ≡ 0
+unfolding fitNumber
+fitNumber-below q qlen count octets h =
+    sym (number-zero (coefficientsFit-true q (decoded qlen count octets) (λ m l.
+    let inside : m < count = rw (length-decoded qlen count octets) at l in
+    rw (getD-decoded qlen count octets inside) (h m inside))))
 
 module _ (p : Parameters) (set : Accepted p) (elements : ℕ) (octets : List ℕ) (exact : length octets ≡ elementsLength p elements) {len r : ℕ} (e : len ≡ qlen (p .q))
     (number : r ≡ fitNumber (p .q) (decoded len (length octets / len) octets))

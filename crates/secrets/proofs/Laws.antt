@@ -1,28 +1,29 @@
 -- Why the value that is found is that of the definitions: the octets' coefficients are the polynomial's, and the first two parts the secret's.
 --
 --   polynomialFrom-flat    the coefficients as they stand in the octets
---   value-sizes, value-coefficients    what taking the value asks
+--   value-sizes, value-octets, value-modulus, unpacked-..    what taking the value asks
 --   valued-..              what each return leaves
 -- Assumes nothing.
 use Prim.Native.Nat.{ℕ, suc, _+_, _*_, _%_, _≤_, _<_}
 use mathlib.Core.Path.{_≡_, refl, sym, ap, _∙_}
 use mathlib.Core.Bool.{true, false}
-use mathlib.Core.List.{List, []}
+use mathlib.Core.List.{List}
 use native.Mathlib.Nat.{mul-le-mul-right, lt-of-lt-of-le}
 use native.Mathlib.Omega.{arith}
 use lib.ListN.{length}
 use Rattle.definitions.specs.Parameters.{Parameters, qlen, monomialCount, elementsLength, workLength}
 use Rattle.definitions.specs.Ring.{InRing, modulo}
 use Rattle.definitions.specs.Monomials.{polynomialOf, value}
-use Rattle.definitions.specs.Octets.{coefficientAt}
+use Rattle.definitions.specs.Octets.{decoded}
 use Rattle.definitions.specs.Calls.{secretX, secretY, secretBitsClear, decodedElements, polynomialFrom, elementsFit}
-use Rattle.definitions.proofs.Refusals.{firstRefusal-applies, firstRefusal-passes, firstRefusal-last}
+use Rattle.definitions.proofs.Refusals.{firstRefusal-applies, firstRefusal-passes}
 use Rattle.definitions.proofs.Parameters.{Accepted, accepted-set, modulus-positive, modulus-least, modulus-word, qlen-least, qlen-most, range-most}
-use Rattle.definitions.proofs.Octets.{getD-decoded, coefficientsFit-at}
+use Rattle.definitions.proofs.Octets.{getD-decoded}
 use Rattle.definitions.proofs.Small.{smallOf-below}
 use Rattle.definitions.proofs.Values.{value-cong, value-cong-secret}
 use Rattle.ring.specs.Work.{part}
 use Rattle.decoding.specs.Elements.{Sizes, flat}
+use Rattle.judging.specs.Reading.{fitNumber}
 use Rattle.secrets.specs.Secrets.{ValueInputs, Unpacked, Valued, valueFrom}
 
 module _ (p : Parameters) (d : ℕ) (secret octets : List ℕ) where
@@ -51,10 +52,6 @@ module _ (p : Parameters) (d : ℕ) (secret octets : List ℕ) where
     unfolding elementsLength
     value-octets = exact .octets-length
 
-    pub value-coefficients : elementsFit p (monomialCount d) octets ≡ true → (m : ℕ) → m < monomialCount d * p .n → coefficientAt (qlen (p .q)) octets m < p .q
-    unfolding elementsFit decodedElements
-    value-coefficients e m l = coefficientsFit-at (p .q) (qlen (p .q)) (monomialCount d * p .n) octets e l
-
     pub value-modulus : (16 ≤ p .q) × (p .q < 2147483648)
     value-modulus = (omega (arith, modulus-least p set), omega (arith, set .modulus-most))
 
@@ -74,24 +71,17 @@ module _ (p : Parameters) (d : ℕ) (secret octets : List ℕ) where
         value = λ z. let n : ⊥ = omega arith in absurd n;
       }
 
-  module _ (padded : secretBitsClear p secret ≡ true) where
-    pub valued-coefficient : (work : List ℕ) → elementsFit p (monomialCount d) octets ≡ false → Valued p d secret octets 8 work
-    valued-coefficient work e =
-        record {
-          number = sym (firstRefusal-passes 7 _ _ (rw padded) ∙ firstRefusal-applies 8 _ [] (rw e));
-          value = λ z. let n : ⊥ = omega arith in absurd n;
-        }
-
-    pub valued-accepted : {mid new : List ℕ} → elementsFit p (monomialCount d) octets ≡ true → Unpacked p secret mid
-        → ((k : ℕ) → k < p .n → part new (2 * p .n) k ≡ value (p .n) d (flat (p .n) (qlen (p .q)) octets) (part mid 0) (part mid (p .n)) k % p .q)
-        → Valued p d secret octets 0 new
-    unfolding modulo
-    valued-accepted {mid} {new} e u found =
-        record {
-          number = sym (firstRefusal-passes 7 _ _ (rw padded) ∙ firstRefusal-last 8 _ (rw e));
-          value = λ z k l.
-              found k l
-              ∙ ap (λ (v : ℕ). v % p .q)
-              (value-cong (p .n) d (part mid 0) (part mid (p .n)) polynomialFrom-flat k
-              ∙ value-cong-secret (p .n) d (polynomialFrom p d octets) (u .x) (u .y) k);
-        }
+  pub valued-read : {mid new : List ℕ} {r : ℕ} → secretBitsClear p secret ≡ true → Unpacked p secret mid
+      → r ≡ fitNumber (p .q) (decoded (qlen (p .q)) (monomialCount d * p .n) octets)
+      → (r ≡ 0 → (k : ℕ) → k < p .n → part new (2 * p .n) k ≡ value (p .n) d (flat (p .n) (qlen (p .q)) octets) (part mid 0) (part mid (p .n)) k % p .q)
+      → Valued p d secret octets r new
+  unfolding modulo fitNumber elementsFit decodedElements
+  valued-read {mid} clear u number found =
+      record {
+        number = number ∙ sym (firstRefusal-passes 7 _ _ (rw clear));
+        value = λ z k l.
+            found z k l
+            ∙ ap (λ (v : ℕ). v % p .q)
+            (value-cong (p .n) d (part mid 0) (part mid (p .n)) polynomialFrom-flat k
+            ∙ value-cong-secret (p .n) d (polynomialFrom p d octets) (u .x) (u .y) k);
+      }

@@ -1,6 +1,6 @@
 // A polynomial's value at a secret, from their octets: what decryption and the zero test share.
-// The secret's unused bits are judged (7), then the polynomial's coefficients (8); the set and the lengths are the caller's to test. The
-// work words are left as they come; the caller clears them. The contracts cite the definitions' secretX, secretY and value.
+// The secret's unused bits are judged (7), then the polynomial's coefficients as they are read (8); the set and the lengths are the caller's
+// to test. The work words are left as they come, after a refusal too; the caller clears them. The contracts cite the definitions' secretX, secretY and value.
 ghost use mathlib.Core.Path.{_≡_};
 ghost use Prim.Native.Nat.{_+_, _*_, _≤_};
 ghost use lib.ListN.{length};
@@ -65,11 +65,7 @@ pub fn value(p: Parameters, d: usize, secret: &[u8], octets: &[u8], work: &mut [
     if !bits_clear(p, secret) {
         return refusals::PADDING;
     }
-    let qlen = lengths::octets_of_coefficient(p.q);
-    if judging::judge(octets, qlen, p.q) != 0 {
-        return refusals::COEFFICIENT;
-    }
     unpack(p, secret, work);
-    values::evaluate(octets, d, p.n as usize, qlen, p.q, work);
-    0
+    let qlen = lengths::octets_of_coefficient(p.q);
+    values::evaluate(octets, d, p.n as usize, qlen, p.q, work)
 }

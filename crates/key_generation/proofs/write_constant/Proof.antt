@@ -1,6 +1,6 @@
 -- `write_constant` is right because the value of the key with constant 0 is that of the other terms, and the constant is its negative.
 -- Assumes nothing.
-use Prim.Native.Nat.{ℕ, _+_, _-_, _*_, _≤_}
+use Prim.Native.Nat.{ℕ, _+_, _-_, _*_, _%_, _≤_, _<_}
 use native.Mathlib.Nat.{mod-lt, mul-le-mul}
 use native.Mathlib.Omega.{arith}
 use mathlib.Core.Path.{_≡_, sym, ap, _∙_}
@@ -10,6 +10,7 @@ use Rattle.definitions.specs.Monomials.{value}
 use Rattle.definitions.proofs.Filling.{length-borrowed}
 use Rattle.ring.specs.Work.{part}
 use Rattle.decoding.specs.Elements.{flat}
+use Rattle.judging.proofs.Judged.{fitNumber-below}
 use Rattle.key_generation.proofs.Parts.{tail-length, constant-room, constant-placed}
 use Rattle.key_generation.proofs.write_constant.Statement.{statement}
 use Rattle.key_generation.proofs.write_constant.Tie as tie
@@ -18,8 +19,15 @@ use Rattle.key_generation.proofs.write_constant.Tie as tie
 inside : (c : tie.After-evaluate) → 2 * c .before .before .before .before .before .args .n + c .before .before .before .before .before .args .n ≤ length (c .evaluate .last .1 .1 .1 .1 .1 .0)
 inside c = omega (arith, c .evaluate .kept .1 .1 .1 .1 .1 .0, c .before .before .before .before .before .pre .0 .0 .room)
 
+-- nothing is refused: the octets were just written, each coefficient below q
+valued : (c : tie.After-evaluate) → let a = c .before .before .before .before .before .args in
+    (k : ℕ) → k < a .n → part (c .evaluate .last .1 .1 .1 .1 .1 .0) (2 * a .n) k ≡ value (a .n) (a .d) (flat (a .n) (a .qlen) (a .public .now)) (part (a .work .now) 0) (part (a .work .now) (a .n)) k % a .q
+valued c = c .evaluate .ensures .1 (c .evaluate .ensures .0 ∙ fitNumber-below _ _ _ _ (c .before .before .before .before .before .pre .1 .0))
+
 negate-requires : tie.Need-negate-requires
-negate-requires c κs = (inside (c .before .before .before), (λ k l. rw (c .before .before .before .evaluate .ensures k l) (mod-lt _ (omega (arith, c .before .before .before .before .before .before .before .before .pre .0 .4)))))
+negate-requires c κs =
+    let most : 0 < c .before .before .before .before .before .before .before .before .args .q = omega (arith, c .before .before .before .before .before .before .before .before .pre .0 .4) in
+    (inside (c .before .before .before), (λ k l. rw (valued (c .before .before .before) k l) (mod-lt _ most)))
 
 mul-from : tie.Need-mul-from
 mul-from c = let sizes = c .before .before .before .before .before .before .before .before .before .before .before .pre .0 .0 in
@@ -46,7 +54,7 @@ encode-requires c κs = let s = c .before .before .before .before .before .befor
 returns : tie.Need-returns
 returns c = let a = c .before .before .before .before .before .before .before .before .before .before .before .before .before .before .before .before .before .args in
     constant-placed (a .n) (a .qlen) (a .q) (a .public .now) (c .before .before .encode .last .1 .1 .0) (c .before .before .before .before .before .before .before .before .before .before .before .before .evaluate .last .1 .1 .1 .1 .1 .0) (c .before .before .before .before .before .before .before .before .negate .last .0)
-    (value (a .n) (a .d) (flat (a .n) (a .qlen) (a .public .now)) (part (a .work .now) 0) (part (a .work .now) (a .n))) (room (c .before .before .before .before .before .before .before .before .before .before .before .before .before .before .before .before .before)) (inside (c .before .before .before .before .before .before .before .before .before .before .before .before)) (c .before .before .before .before .before .before .before .before .before .before .before .before .evaluate .ensures) (c .before .before .before .before .before .before .before .before .negate .ensures) (c .before .before .encode .ensures)
+    (value (a .n) (a .d) (flat (a .n) (a .qlen) (a .public .now)) (part (a .work .now) 0) (part (a .work .now) (a .n))) (room (c .before .before .before .before .before .before .before .before .before .before .before .before .before .before .before .before .before)) (inside (c .before .before .before .before .before .before .before .before .before .before .before .before)) (valued (c .before .before .before .before .before .before .before .before .before .before .before .before)) (c .before .before .before .before .before .before .before .before .negate .ensures) (c .before .before .encode .ensures)
 
 pub write-constant-spec : {M : Type 1} → statement M
 write-constant-spec =
