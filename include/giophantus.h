@@ -1,7 +1,7 @@
 /*
  * giophantus.h: the Giophantus scheme for adding encrypted counts.
  *
- * Link with libgiophantus.a, which `rt staticlib giophantus` writes to target/staticlib at the repository's root:
+ * Link with libgiophantus.a, which `tests/archive` at the repository's root writes to target/staticlib:
  *
  *     cc -std=c11 -Iinclude program.c target/staticlib/libgiophantus.a
  *
@@ -47,8 +47,9 @@
  * modulo l, while s is at most the headroom (giophantus_limits), with a secret key that is a zero of the public
  * key. Past the headroom nothing is promised, and no call can tell that a sum is past it: count the summands.
  *
- * The library allocates nothing, keeps no state and calls nothing. The source of the random octets, the primality
- * of q and equal timing are outside it, and nothing is claimed about secrecy.
+ * The library allocates nothing, keeps no state and calls nothing but memset and its like (memcpy, memmove), which
+ * every C library has. The source of the random octets, the primality of q and equal timing are outside it, and
+ * nothing is claimed about secrecy.
  */
 
 #ifndef GIOPHANTUS_H
