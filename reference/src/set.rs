@@ -146,6 +146,11 @@ impl Set {
         2 * self.small_octets()
     }
 
+    /// Words of a secret key.
+    pub fn secret_key_words(self) -> usize {
+        2 * self.places()
+    }
+
     /// Words of a public key.
     pub fn public_key_words(self) -> usize {
         monomials::count(self.dx) * self.places()

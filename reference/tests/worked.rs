@@ -280,4 +280,15 @@ fn conversions_of_the_worked_octets() {
     assert_eq!(small_from_octets(A, &[0x09], &mut words), 0);
     assert_eq!(words, [1, 2]);
     assert_eq!(octets::pack(2, &words, 1), [0x09]);
+
+    // 09 04 is 1 + 2t, then t; the padding of either half is refusal 7.
+    let mut words = [0; 4];
+    assert_eq!(secret_key_from_octets(A, &secret_key(), &mut words), 0);
+    assert_eq!(words, [1, 2, 0, 1]);
+    let mut back = [0; 2];
+    assert_eq!(secret_key_to_octets(A, &words, &mut back), 0);
+    assert_eq!(back[..], secret_key());
+    assert_eq!(secret_key_from_octets(A, &[0x19, 0x04], &mut words), 7);
+    assert_eq!(secret_key_from_octets(A, &[0x09, 0x84], &mut words), 7);
+    assert_eq!(secret_key_to_octets(A, &[1, 2, 0, 4], &mut back), 8);
 }
