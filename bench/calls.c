@@ -1,5 +1,6 @@
 /* The library's calls beside the same calls in C over several rings.  Results are compared before
    anything is timed; entries take turns; each time is the minimum of all rounds.
+   With -DLIBRARY_ONLY the library has no peers, and addition, whose peers are in copies.c, is among the calls.
    Usage: calls [TIMES.csv] */
 
 #include <stdio.h>
@@ -16,6 +17,7 @@ static const struct entry {
     int shared;
 } entries[] = {
     {"library", NULL, 0},
+#ifndef LIBRARY_ONLY
     {"FLINT", &ring_flint, 0},
     {"FLINT shared", &ring_flint, 1},
 #ifdef HAVE_ZN_POLY
@@ -26,6 +28,7 @@ static const struct entry {
     {"C Karatsuba shared", &ring_karatsuba, 1},
     {"C rows", &ring_rows, 0},
     {"naive C", &ring_naive, 0},
+#endif
 };
 #define ENTRIES (sizeof entries / sizeof entries[0])
 
@@ -93,6 +96,15 @@ static void run_decrypt(size_t i)
         peer_decrypt(entries[i].ring, set, secret_key, ciphertext, out.message);
 }
 
+#ifdef LIBRARY_ONLY
+static void run_add(size_t i)
+{
+    (void)i;
+    must(giophantus_add(SET, ciphertext, ciphertext_length, ciphertext, ciphertext_length, out.ciphertext,
+                        ciphertext_length));
+}
+#endif
+
 static const struct call {
     const char *name;
     void (*run)(size_t);
@@ -102,6 +114,9 @@ static const struct call {
     {"keygen", run_keygen, 0},
     {"is_zero", run_is_zero, 0},
     {"encrypt", run_encrypt, 1},
+#ifdef LIBRARY_ONLY
+    {"add", run_add, 0},
+#endif
     {"decrypt", run_decrypt, 0},
 };
 #define ROWS (sizeof calls / sizeof calls[0] * SETS)

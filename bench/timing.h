@@ -9,7 +9,9 @@
 
 #include "peer.h"
 
+#ifndef RUNS
 #define RUNS 3
+#endif
 #define ROUNDS 20
 #define MOST_ENTRIES 16
 
