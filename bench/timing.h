@@ -44,6 +44,16 @@ struct table {
    first entry's as a multiple of each other one's, and writes them to a file, if one is named. */
 void time_table(const struct table *table, const char *file);
 
+/* Ends the program and says what went wrong with a set. */
+void fail(const struct set *set, const char *what);
+
+/* A call of the library must not be refused.  In place, since it is timed with the call. */
+static inline void must(const struct set *set, uint32_t answer)
+{
+    if (answer != 0)
+        fail(set, "the library refuses");
+}
+
 /* Any number (splitmix64). */
 uint64_t number(void);
 

@@ -4,19 +4,8 @@ use reference::ledger::Ledger;
 use reference::prng::Prng;
 use reference::ring;
 use reference::scheme::{read_polynomial, read_secret_key};
-use reference::set::{bound, headroom};
+use reference::set::{bound, headroom, set};
 use reference::*;
-
-const fn set(l: u32, q: u32, n: u32, dx: u32, dr: u32, mlen: u32) -> Set {
-    Set {
-        l,
-        q,
-        n,
-        dx,
-        dr,
-        mlen,
-    }
-}
 
 /// Every l, every pair of degrees, every qlen that a set can have, odd lengths.
 const SETS: [Set; 20] = [
@@ -222,10 +211,7 @@ fn headroom_is_reached_and_not_passed() {
         if s > 3000 {
             continue;
         }
-        let set = Set {
-            mlen: set.n * set.b(),
-            ..set
-        };
+        let set = set.whole();
         let words = vec![set.l - 1; set.places()];
         let mut small = vec![0; set.small_octets()];
         assert_eq!(small_to_octets(set, &words, &mut small), 0);

@@ -7,6 +7,7 @@ use differential::inputs;
 use differential::run::{run_group, Run};
 use differential::sets::{largest_n, sets_with, DEGREES, MOST_Q, RANGES};
 use differential::spoil::{spoil_coefficient, spoil_input, spoil_length, spoiled_number, ways};
+use reference::set::set;
 use reference::Set;
 
 /// The n that are tried with every l and degree, beside the largest that is accepted.
@@ -196,14 +197,7 @@ fn one_set(run: &mut Run, set: Set) {
 
 /// Worked case 7: coefficient 1458 of a key is accepted, 1459 is refusal 8.
 fn worked(run: &mut Run) {
-    let set = Set {
-        l: 4,
-        q: 1459,
-        n: 2,
-        dx: 1,
-        dr: 1,
-        mlen: 4,
-    };
+    let set = set(4, 1459, 2, 1, 1, 4);
     let key = [5, 0, 7, 0, 0x64, 0, 1, 0, 0x9F, 5, 0x3E, 5];
     let words = [5, 7, 100, 1, 1439, 1342];
     let (number, got) = from_octets(run, set, Kind::PublicKey, &key, 6);
@@ -236,14 +230,7 @@ fn worked(run: &mut Run) {
 
 /// No q is accepted: refusal 4, whatever the lengths are.
 fn too_large(run: &mut Run, l: u32, n: u32, (dx, dr): (u32, u32)) {
-    let set = Set {
-        l,
-        q: MOST_Q,
-        n,
-        dx,
-        dr,
-        mlen: 0,
-    };
+    let set = set(l, MOST_Q, n, dx, dr, 0);
     for kind in KINDS {
         let length = kind.words(set);
         from_octets(run, set, kind, &vec![0; kind.octets(set)], length);

@@ -14,21 +14,10 @@ use differential::inputs;
 use differential::run::Run;
 use differential::sets::MOST_Q;
 use reference::octets::{numbers_from_octets, numbers_to_octets, pack};
-use reference::set::{bit_length, bound};
+use reference::set::{bit_length, bound, set};
 use reference::Set;
 
 const SEED: u64 = 0x4B41_5453;
-
-const fn set(l: u32, q: u32, n: u32, dx: u32, dr: u32, mlen: u32) -> Set {
-    Set {
-        l,
-        q,
-        n,
-        dx,
-        dr,
-        mlen,
-    }
-}
 
 /// Document 01's set A.
 const A: Set = set(4, 1459, 2, 1, 1, 4);
@@ -594,17 +583,11 @@ fn decryptions(directory: &Path) {
         let constant = numbers_to_octets(set.qlen(), &vec![set.q - 1; set.places()]);
         let mut top = vec![0; a.len() - constant.len()];
         top.extend(constant);
-        let whole = Set {
-            mlen: set.n * set.b(),
-            ..set
-        };
+        let whole = set.whole();
         file.decrypt(whole, &secret_key, &top, DecryptLengths::of(whole));
     }
     // A message coefficient at the last kept place, and at each place past mlen.
-    let whole = Set {
-        mlen: PADDED.n * PADDED.b(),
-        ..PADDED
-    };
+    let whole = PADDED.whole();
     let keys = keys_of(&mut file, whole);
     for place in 6..9 {
         let mut m = vec![0; 9];
