@@ -1,5 +1,6 @@
 /* The library's calls beside the same calls in C over several rings.  Results are compared before
    anything is timed; entries take turns; each time is the minimum of all rounds.
+   With -DLIBRARY_ONLY the library has no peers, and addition, whose peers are in copies.c, is among the calls.
    Usage: calls [TIMES.csv] */
 
 #include <stdio.h>
@@ -16,6 +17,7 @@ static const struct entry {
     int shared;
 } entries[] = {
     {"library", NULL, 0},
+#ifndef LIBRARY_ONLY
     {"FLINT", &ring_flint, 0},
     {"FLINT shared", &ring_flint, 1},
 #ifdef HAVE_ZN_POLY
@@ -26,6 +28,7 @@ static const struct entry {
     {"C Karatsuba shared", &ring_karatsuba, 1},
     {"C rows", &ring_rows, 0},
     {"naive C", &ring_naive, 0},
+#endif
 };
 #define ENTRIES (sizeof entries / sizeof entries[0])
 
@@ -43,23 +46,11 @@ static struct outputs {
 static uint32_t work[8 * MAX_N];
 static size_t secret_length, public_length, message_length, ciphertext_length;
 
-static void fail(const char *what)
-{
-    fprintf(stderr, "calls: %s at n %u\n", what, set->n);
-    exit(1);
-}
-
-static void must(uint32_t answer)
-{
-    if (answer != 0)
-        fail("the library refuses");
-}
-
 static void run_keygen(size_t i)
 {
     if (entries[i].ring == NULL)
-        must(giophantus_keygen(SET, random_octets, sizeof random_octets, out.secret_key, secret_length,
-                               out.public_key, public_length, work, 8 * set->n, &out.used));
+        must(set, giophantus_keygen(SET, random_octets, sizeof random_octets, out.secret_key, secret_length,
+                                    out.public_key, public_length, work, 8 * set->n, &out.used));
     else
         out.used = peer_keygen(entries[i].ring, set, random_octets, out.secret_key, out.public_key);
 }
@@ -69,7 +60,7 @@ static void run_is_zero(size_t i)
     uint32_t zero;
 
     if (entries[i].ring == NULL)
-        must(giophantus_is_zero(SET, secret_key, secret_length, public_key, public_length, work, 8 * set->n, &zero));
+        must(set, giophantus_is_zero(SET, secret_key, secret_length, public_key, public_length, work, 8 * set->n, &zero));
     else
         zero = (uint32_t)peer_is_zero(entries[i].ring, set, secret_key, public_key);
     out.used = zero;
@@ -78,8 +69,8 @@ static void run_is_zero(size_t i)
 static void run_encrypt(size_t i)
 {
     if (entries[i].ring == NULL)
-        must(giophantus_encrypt(SET, public_key, public_length, message, message_length, random_octets,
-                                sizeof random_octets, out.ciphertext, ciphertext_length, work, 8 * set->n, &out.used));
+        must(set, giophantus_encrypt(SET, public_key, public_length, message, message_length, random_octets,
+                                     sizeof random_octets, out.ciphertext, ciphertext_length, work, 8 * set->n, &out.used));
     else
         out.used = peer_encrypt(entries[i].ring, entries[i].shared, set, public_key, message, random_octets, out.ciphertext);
 }
@@ -87,11 +78,20 @@ static void run_encrypt(size_t i)
 static void run_decrypt(size_t i)
 {
     if (entries[i].ring == NULL)
-        must(giophantus_decrypt(SET, secret_key, secret_length, ciphertext, ciphertext_length, out.message,
-                                message_length, work, 8 * set->n));
+        must(set, giophantus_decrypt(SET, secret_key, secret_length, ciphertext, ciphertext_length, out.message,
+                                     message_length, work, 8 * set->n));
     else
         peer_decrypt(entries[i].ring, set, secret_key, ciphertext, out.message);
 }
+
+#ifdef LIBRARY_ONLY
+static void run_add(size_t i)
+{
+    (void)i;
+    must(set, giophantus_add(SET, ciphertext, ciphertext_length, ciphertext, ciphertext_length, out.ciphertext,
+                             ciphertext_length));
+}
+#endif
 
 static const struct call {
     const char *name;
@@ -102,6 +102,9 @@ static const struct call {
     {"keygen", run_keygen, 0},
     {"is_zero", run_is_zero, 0},
     {"encrypt", run_encrypt, 1},
+#ifdef LIBRARY_ONLY
+    {"add", run_add, 0},
+#endif
     {"decrypt", run_decrypt, 0},
 };
 #define ROWS (sizeof calls / sizeof calls[0] * SETS)
@@ -148,7 +151,7 @@ static void check_equal(int times)
             run_once(i, &got);
             if (memcmp(&wanted, &got, sizeof got) != 0) {
                 fprintf(stderr, "calls: %s: ", call->name);
-                fail(entries[i].name);
+                fail(set, entries[i].name);
             }
         }
     }

@@ -32,42 +32,30 @@ static uint32_t words[RUN_WORDS], out_words[RUN_WORDS];
 /* The lengths of one ciphertext or small element, and how many there are. */
 static size_t octets_length, words_length, count;
 
-static void fail(const char *what)
-{
-    fprintf(stderr, "copies: %s at n %u\n", what, set->n);
-    exit(1);
-}
-
-static void must(uint32_t answer)
-{
-    if (answer != 0)
-        fail("the library refuses");
-}
-
 static void library_add(size_t i)
 {
-    must(giophantus_add(SET, octets + i * octets_length, octets_length, other + i * octets_length, octets_length,
-                        out_octets + i * octets_length, octets_length));
+    must(set, giophantus_add(SET, octets + i * octets_length, octets_length, other + i * octets_length, octets_length,
+                             out_octets + i * octets_length, octets_length));
 }
 
 static void library_decode(size_t i)
 {
-    must(giophantus_ciphertext_from_octets(SET, octets + i * octets_length, octets_length, out_words + i * words_length, words_length));
+    must(set, giophantus_ciphertext_from_octets(SET, octets + i * octets_length, octets_length, out_words + i * words_length, words_length));
 }
 
 static void library_encode(size_t i)
 {
-    must(giophantus_ciphertext_to_octets(SET, words + i * words_length, words_length, out_octets + i * octets_length, octets_length));
+    must(set, giophantus_ciphertext_to_octets(SET, words + i * words_length, words_length, out_octets + i * octets_length, octets_length));
 }
 
 static void library_unpack(size_t i)
 {
-    must(giophantus_small_from_octets(SET, octets + i * octets_length, octets_length, out_words + i * words_length, words_length));
+    must(set, giophantus_small_from_octets(SET, octets + i * octets_length, octets_length, out_words + i * words_length, words_length));
 }
 
 static void library_pack(size_t i)
 {
-    must(giophantus_small_to_octets(SET, words + i * words_length, words_length, out_octets + i * octets_length, octets_length));
+    must(set, giophantus_small_to_octets(SET, words + i * words_length, words_length, out_octets + i * octets_length, octets_length));
 }
 
 static void plain_add(size_t i)
@@ -189,7 +177,7 @@ static void check_equal(size_t entry)
     if (call->wanted != NULL ? memcmp(out_octets, call->wanted, count * octets_length) != 0
                              : memcmp(out_words, words, 4 * count * words_length) != 0) {
         fprintf(stderr, "copies: %s: ", call->name);
-        fail(names[entry]);
+        fail(set, names[entry]);
     }
 }
 

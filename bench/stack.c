@@ -32,7 +32,7 @@ static const struct set sets[] = {
 static const struct set *set;
 static uint8_t random_octets[4 * MAX_OCTETS], secret_key[MAX_N], public_key[MAX_OCTETS], message[MAX_N];
 static uint8_t ciphertext[MAX_OCTETS], sum[MAX_OCTETS], decrypted[MAX_N];
-static uint32_t words[MAX_ELEMENTS * MAX_N], small_words[MAX_N], work[8 * MAX_N], bound, headroom, zero;
+static uint32_t words[MAX_ELEMENTS * MAX_N], small_words[2 * MAX_N], work[8 * MAX_N], bound, headroom, zero;
 static uint64_t secret_length, public_length, message_length, ciphertext_length, work_length, used;
 
 static uint32_t check(void)
@@ -98,6 +98,16 @@ static uint32_t small_to_octets(void)
     return giophantus_small_to_octets(SET, small_words, set->n, sum, small_octets(set));
 }
 
+static uint32_t secret_key_from_octets(void)
+{
+    return giophantus_secret_key_from_octets(SET, secret_key, secret_length, small_words, 2 * set->n);
+}
+
+static uint32_t secret_key_to_octets(void)
+{
+    return giophantus_secret_key_to_octets(SET, small_words, 2 * set->n, sum, secret_length);
+}
+
 static uint32_t public_key_from_octets(void)
 {
     return giophantus_public_key_from_octets(SET, public_key, public_length, words, elements(set->dx) * set->n);
@@ -135,6 +145,8 @@ static const struct call {
     {"element_to_octets", element_to_octets},
     {"small_from_octets", small_from_octets},
     {"small_to_octets", small_to_octets},
+    {"secret_key_from_octets", secret_key_from_octets},
+    {"secret_key_to_octets", secret_key_to_octets},
     {"public_key_from_octets", public_key_from_octets},
     {"public_key_to_octets", public_key_to_octets},
     {"ciphertext_from_octets", ciphertext_from_octets},

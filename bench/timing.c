@@ -149,6 +149,12 @@ void time_table(const struct table *table, const char *file)
         write_times(table, file);
 }
 
+void fail(const struct set *set, const char *what)
+{
+    fprintf(stderr, "bench: %s at n %u\n", what, set->n);
+    exit(1);
+}
+
 uint64_t number(void)
 {
     static uint64_t state = 1;

@@ -9,7 +9,9 @@
 
 #include "peer.h"
 
+#ifndef RUNS
 #define RUNS 3
+#endif
 #define ROUNDS 20
 #define MOST_ENTRIES 16
 
@@ -41,6 +43,16 @@ struct table {
    entries that aren't left out take turns for ROUNDS rounds, slow ones for fewer.  Prints the times, with the
    first entry's as a multiple of each other one's, and writes them to a file, if one is named. */
 void time_table(const struct table *table, const char *file);
+
+/* Ends the program and says what went wrong with a set. */
+void fail(const struct set *set, const char *what);
+
+/* A call of the library must not be refused.  In place, since it is timed with the call. */
+static inline void must(const struct set *set, uint32_t answer)
+{
+    if (answer != 0)
+        fail(set, "the library refuses");
+}
 
 /* Any number (splitmix64). */
 uint64_t number(void);

@@ -1,5 +1,5 @@
 /*
- * calls.c: the sixteen calls of the C interface on arguments that libFuzzer chooses. By hand: see docs/FUZZING.md.
+ * calls.c: the eighteen calls of the C interface on arguments that libFuzzer chooses. By hand: see docs/FUZZING.md.
  *
  * The octets of an input choose the call, the six numbers, the length and the contents of each buffer; where the input
  * ends, a sequence that it determines goes on. After the call the rules of giophantus.h are held to, and abort() ends the
@@ -325,17 +325,41 @@ static int unused(const uint8_t *at, size_t used_bits) {
     return used_bits % 8 != 0 && at[used_bits / 8] >> used_bits % 8 != 0;
 }
 
+/* Makes packed elements of so many bits each fit, mostly: a message, a small element, the halves of a secret key. Gives
+   the refusal that is left. */
+static uint32_t fit_packed(struct buffer *b, size_t used_bits) {
+    uint32_t refusal = 0;
+    for (size_t i = 0; i < b->octets; i += (used_bits + 7) / 8) {
+        clear_unused(b->at + i, used_bits);
+        if (unused(b->at + i, used_bits))
+            refusal = GIOPHANTUS_PADDING;
+    }
+    return refusal;
+}
+
+/* The same of coefficients that should be below the limit. */
+static uint32_t fit_coefficients(struct buffer *b, uint32_t size, uint32_t limit) {
+    below(b, size, limit);
+    return reaches(b, size, limit) ? GIOPHANTUS_COEFFICIENT : 0;
+}
+
+/* Of a packed argument and one of coefficients: padding comes first. */
+static uint32_t fit_both(struct buffer *packed, size_t used_bits, struct buffer *b, uint32_t size, uint32_t limit) {
+    uint32_t padding = fit_packed(packed, used_bits), coefficient = fit_coefficients(b, size, limit);
+    return padding != 0 ? padding : coefficient;
+}
+
 /* ---- the calls ---- */
 
 enum call {
     CHECK, LIMITS, LENGTHS, KEYGEN, IS_ZERO, ENCRYPT, ADD, DECRYPT, ELEMENT_FROM, ELEMENT_TO, SMALL_FROM, SMALL_TO,
-    PUBLIC_FROM, PUBLIC_TO, CIPHER_FROM, CIPHER_TO, ROUND, CALLS
+    SECRET_FROM, SECRET_TO, PUBLIC_FROM, PUBLIC_TO, CIPHER_FROM, CIPHER_TO, ROUND, CALLS
 };
 
 static const char *const names[] = {
     "check", "limits", "lengths", "keygen", "is_zero", "encrypt", "add", "decrypt", "element_from_octets",
-    "element_to_octets", "small_from_octets", "small_to_octets", "public_key_from_octets", "public_key_to_octets",
-    "ciphertext_from_octets", "ciphertext_to_octets", "round trip"
+    "element_to_octets", "small_from_octets", "small_to_octets", "secret_key_from_octets", "secret_key_to_octets",
+    "public_key_from_octets", "public_key_to_octets", "ciphertext_from_octets", "ciphertext_to_octets", "round trip"
 };
 
 /* What libFuzzer is told of the archive, which has no counters: each answer of each call, by set and by kind of set. */
@@ -496,10 +520,8 @@ static void one_call(void) {
         break;
     case IS_ZERO:
         x = sized(INPUT, sk, 1), y = sized(INPUT, pk, 1), w = sized(WORK, work_words, 4), u = buffer(OUTPUT, 4);
-        if (refused == 0 && !wrong_length) {
-            clear_unused(x->at, n * b), clear_unused(x->at + small, n * b), below(y, qlen, s.q);
-            low = unused(x->at, n * b) || unused(x->at + small, n * b) ? 7 : reaches(y, qlen, s.q) ? 8 : 0;
-        }
+        if (refused == 0 && !wrong_length)
+            low = fit_both(x, n * b, y, qlen, s.q);
         keep();
         number = giophantus_is_zero(SET(&s), OCTETS(x), OCTETS(y), WORDS(w), (void *)u->at);
         break;
@@ -507,54 +529,48 @@ static void one_call(void) {
         x = sized(INPUT, pk, 1), y = sized(INPUT, msg, 1);
         r = random_octets(refused == 0 ? places(s.dr) * element + nd * small : 64);
         z = sized(OUTPUT, ct, 1), w = sized(WORK, work_words, 4), u = buffer(OUTPUT, 8);
-        if (refused == 0 && !wrong_length) {
-            below(x, qlen, s.q), clear_unused(y->at, s.mlen);
-            low = unused(y->at, s.mlen) ? 7 : reaches(x, qlen, s.q) ? 8 : 0;
-        }
+        if (refused == 0 && !wrong_length)
+            low = fit_both(y, s.mlen, x, qlen, s.q);
         keep();
         number = giophantus_encrypt(SET(&s), OCTETS(x), OCTETS(y), OCTETS(r), OCTETS(z), WORDS(w), (void *)u->at);
         break;
     case ADD:
         x = sized(INPUT, ct, 1), y = octet() & 1 ? x : sized(INPUT, ct, 1), z = sized(OUTPUT, ct, 1);
         if (refused == 0 && !wrong_length) {
-            below(x, qlen, s.q), below(y, qlen, s.q);
-            low = reaches(x, qlen, s.q) || reaches(y, qlen, s.q) ? 8 : 0;
+            low = fit_coefficients(x, qlen, s.q);
+            if (y != x && fit_coefficients(y, qlen, s.q) != 0)
+                low = GIOPHANTUS_COEFFICIENT;
         }
         keep();
         number = giophantus_add(SET(&s), OCTETS(x), OCTETS(y), OCTETS(z));
         break;
     case DECRYPT:
         x = sized(INPUT, sk, 1), y = sized(INPUT, ct, 1), z = sized(OUTPUT, msg, 1), w = sized(WORK, work_words, 4);
-        if (refused == 0 && !wrong_length) {
-            clear_unused(x->at, n * b), clear_unused(x->at + small, n * b), below(y, qlen, s.q);
-            low = unused(x->at, n * b) || unused(x->at + small, n * b) ? 7 : reaches(y, qlen, s.q) ? 8 : 0;
-        }
+        if (refused == 0 && !wrong_length)
+            low = fit_both(x, n * b, y, qlen, s.q);
         keep();
         number = giophantus_decrypt(SET(&s), OCTETS(x), OCTETS(y), OCTETS(z), WORDS(w));
         break;
     default: { /* the conversions */
         static from_octets *const from[] = {giophantus_element_from_octets, giophantus_small_from_octets,
-                                            giophantus_public_key_from_octets, giophantus_ciphertext_from_octets};
+                                            giophantus_secret_key_from_octets, giophantus_public_key_from_octets,
+                                            giophantus_ciphertext_from_octets};
         static to_octets *const to[] = {giophantus_element_to_octets, giophantus_small_to_octets,
-                                        giophantus_public_key_to_octets, giophantus_ciphertext_to_octets};
-        int which = (call - ELEMENT_FROM) / 2, is_small = which == 1;
-        size_t octets[] = {element, small, pk, ct}, words[] = {n, n, (size_t)nx * n, (size_t)nd * n};
+                                        giophantus_secret_key_to_octets, giophantus_public_key_to_octets,
+                                        giophantus_ciphertext_to_octets};
+        int which = (call - ELEMENT_FROM) / 2, packed = which == 1 || which == 2;
+        size_t octets[] = {element, small, sk, pk, ct};
+        size_t words[] = {n, n, (size_t)2 * n, (size_t)nx * n, (size_t)nd * n};
         if ((call - ELEMENT_FROM) % 2 == 0) {
             x = sized(INPUT, octets[which], 1), y = sized(OUTPUT, words[which], 4);
-            if (refused == 0 && !wrong_length) {
-                if (is_small)
-                    clear_unused(x->at, n * b), low = unused(x->at, n * b) ? 7 : 0;
-                else
-                    below(x, qlen, s.q), low = reaches(x, qlen, s.q) ? 8 : 0;
-            }
+            if (refused == 0 && !wrong_length)
+                low = packed ? fit_packed(x, n * b) : fit_coefficients(x, qlen, s.q);
             keep();
             number = from[which](SET(&s), OCTETS(x), WORDS(y));
         } else {
             x = sized(INPUT, words[which], 4), y = sized(OUTPUT, octets[which], 1);
-            if (refused == 0 && !wrong_length) {
-                below(x, 4, is_small ? s.l : s.q);
-                low = reaches(x, 4, is_small ? s.l : s.q) ? 8 : 0;
-            }
+            if (refused == 0 && !wrong_length)
+                low = fit_coefficients(x, 4, packed ? s.l : s.q);
             keep();
             number = to[which](SET(&s), WORDS(x), OCTETS(y));
         }

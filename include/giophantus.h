@@ -1,7 +1,7 @@
 /*
  * giophantus.h: the Giophantus scheme for adding encrypted counts.
  *
- * Link with libgiophantus.a, which `rt staticlib giophantus` writes to target/staticlib at the repository's root:
+ * Link with libgiophantus.a, which `tests/archive` at the repository's root writes to target/staticlib:
  *
  *     cc -std=c11 -Iinclude program.c target/staticlib/libgiophantus.a
  *
@@ -47,8 +47,9 @@
  * modulo l, while s is at most the headroom (giophantus_limits), with a secret key that is a zero of the public
  * key. Past the headroom nothing is promised, and no call can tell that a sum is past it: count the summands.
  *
- * The library allocates nothing, keeps no state and calls nothing. The source of the random octets, the primality
- * of q and equal timing are outside it, and nothing is claimed about secrecy.
+ * The library allocates nothing, keeps no state and calls nothing but memset and its like (memcpy, memmove), which
+ * every C library has. The source of the random octets, the primality of q and equal timing are outside it, and
+ * nothing is claimed about secrecy.
  */
 
 #ifndef GIOPHANTUS_H
@@ -185,8 +186,8 @@ uint32_t giophantus_element_to_octets(uint32_t l, uint32_t q, uint32_t n, uint32
 
 /*
  * giophantus_small_from_octets: the n coefficients of a small element as words, each below l, from its ceil(n * b
- * / 8) packed octets: one half of a secret key, say. Refusals, in order: 1 to 5; 6 where octets or words isn't of
- * its exact length; 7 where an unused bit isn't zero. No work words.
+ * / 8) packed octets. Refusals, in order: 1 to 5; 6 where octets or words isn't of its exact length; 7 where an
+ * unused bit isn't zero. No work words.
  */
 uint32_t giophantus_small_from_octets(uint32_t l, uint32_t q, uint32_t n, uint32_t dx, uint32_t dr, uint32_t mlen,
                                       const uint8_t *octets, size_t octets_len, uint32_t *words, size_t words_len);
@@ -199,6 +200,24 @@ uint32_t giophantus_small_from_octets(uint32_t l, uint32_t q, uint32_t n, uint32
  */
 uint32_t giophantus_small_to_octets(uint32_t l, uint32_t q, uint32_t n, uint32_t dx, uint32_t dr, uint32_t mlen,
                                     const uint32_t *words, size_t words_len, uint8_t *octets, size_t octets_len);
+
+/*
+ * giophantus_secret_key_from_octets: the 2 * n coefficients of a secret key as words, u_x and then u_y, each below
+ * l, from its octets. Refusals, in order: 1 to 5; 6 where octets or words isn't of its exact length; 7 where an
+ * unused bit of either half isn't zero. No work words.
+ */
+uint32_t giophantus_secret_key_from_octets(uint32_t l, uint32_t q, uint32_t n, uint32_t dx, uint32_t dr,
+                                           uint32_t mlen, const uint8_t *octets, size_t octets_len, uint32_t *words,
+                                           size_t words_len);
+
+/*
+ * giophantus_secret_key_to_octets: the octets of a secret key, from its 2 * n coefficients as words, u_x and then
+ * u_y; the unused bits of each half are written as zero. Refusals, in order: 1 to 5; 6 where words or octets isn't
+ * of its exact length; 8 where a word is l or more. No work words.
+ */
+uint32_t giophantus_secret_key_to_octets(uint32_t l, uint32_t q, uint32_t n, uint32_t dx, uint32_t dr, uint32_t mlen,
+                                         const uint32_t *words, size_t words_len, uint8_t *octets,
+                                         size_t octets_len);
 
 /*
  * giophantus_public_key_from_octets: the N(dx) * n coefficients of a public key as words, element by element,

@@ -277,6 +277,8 @@ CALL(element_from_octets, (SET, BUFFER(0), BUFFER(1)))
 CALL(element_to_octets, (SET, BUFFER(0), BUFFER(1)))
 CALL(small_from_octets, (SET, BUFFER(0), BUFFER(1)))
 CALL(small_to_octets, (SET, BUFFER(0), BUFFER(1)))
+CALL(secret_key_from_octets, (SET, BUFFER(0), BUFFER(1)))
+CALL(secret_key_to_octets, (SET, BUFFER(0), BUFFER(1)))
 CALL(public_key_from_octets, (SET, BUFFER(0), BUFFER(1)))
 CALL(public_key_to_octets, (SET, BUFFER(0), BUFFER(1)))
 CALL(ciphertext_from_octets, (SET, BUFFER(0), BUFFER(1)))
@@ -325,6 +327,8 @@ static const struct call {
     {"element_to_octets", call_element_to_octets, TO_OCTETS},
     {"small_from_octets", call_small_from_octets, FROM_OCTETS},
     {"small_to_octets", call_small_to_octets, TO_OCTETS},
+    {"secret_key_from_octets", call_secret_key_from_octets, FROM_OCTETS},
+    {"secret_key_to_octets", call_secret_key_to_octets, TO_OCTETS},
     {"public_key_from_octets", call_public_key_from_octets, FROM_OCTETS},
     {"public_key_to_octets", call_public_key_to_octets, TO_OCTETS},
     {"ciphertext_from_octets", call_ciphertext_from_octets, FROM_OCTETS},

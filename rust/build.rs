@@ -1,5 +1,5 @@
 //! Finds libgiophantus.a: in the directory that GIOPHANTUS_LIB_DIR names, else in ../target/staticlib, where
-//! `rt staticlib giophantus` writes it.
+//! `tests/archive` writes it.
 
 use std::env;
 use std::path::{Path, PathBuf};
@@ -23,8 +23,8 @@ fn main() {
     println!("cargo:rerun-if-changed={}", archive.display());
     if !archive.is_file() {
         stop(&format!(
-            "{} is missing: run `rt staticlib giophantus` at the repository's root, or set GIOPHANTUS_LIB_DIR to the \
-             directory that holds it",
+            "{} is missing: run `tests/archive` at the repository's root, or set GIOPHANTUS_LIB_DIR to the directory \
+             that holds it",
             archive.display()
         ));
     }

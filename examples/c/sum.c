@@ -1,7 +1,7 @@
 /*
  * sum.c: two laboratories encrypt their counts, the ciphertexts are added unopened, the office decrypts the total.
  *
- * Build and run in this directory, after `rt staticlib giophantus` at the repository's root:
+ * Build and run in this directory, after `tests/archive` at the repository's root:
  *
  *     make run
  *

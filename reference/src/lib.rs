@@ -21,7 +21,8 @@ pub mod set;
 
 pub use convert::{
     ciphertext_from_octets, ciphertext_to_octets, element_from_octets, element_to_octets,
-    public_key_from_octets, public_key_to_octets, small_from_octets, small_to_octets,
+    public_key_from_octets, public_key_to_octets, secret_key_from_octets, secret_key_to_octets,
+    small_from_octets, small_to_octets,
 };
 pub use scheme::{add, decrypt, encrypt, is_zero, keygen};
 pub use set::{check, lengths, limits, Set};

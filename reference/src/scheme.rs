@@ -5,7 +5,7 @@ use crate::monomials;
 use crate::octets;
 use crate::refusal;
 use crate::ring::{self, Element, Polynomial};
-use crate::set::{check, Set};
+use crate::set::{check_lengths, Set};
 
 /// 01: key making. Draws u_x, u_y and every key element but the constant, which is minus the sum
 /// of a_ij * u_x^i * u_y^j over the others.
@@ -17,15 +17,16 @@ pub fn keygen(
     work: &mut [u32],
     used: &mut u64,
 ) -> u32 {
-    let number = check(set);
+    let number = check_lengths(
+        set,
+        [
+            (secret_key.len(), Set::secret_key_octets),
+            (public_key.len(), Set::public_key_octets),
+            (work.len(), Set::work_words),
+        ],
+    );
     if number != refusal::NONE {
         return number;
-    }
-    if secret_key.len() != set.secret_key_octets()
-        || public_key.len() != set.public_key_octets()
-        || work.len() != set.work_words()
-    {
-        return refusal::LENGTH;
     }
     work.fill(0);
 
@@ -70,15 +71,16 @@ pub fn is_zero(
     work: &mut [u32],
     zero: &mut u32,
 ) -> u32 {
-    let number = check(set);
+    let number = check_lengths(
+        set,
+        [
+            (secret_key.len(), Set::secret_key_octets),
+            (public_key.len(), Set::public_key_octets),
+            (work.len(), Set::work_words),
+        ],
+    );
     if number != refusal::NONE {
         return number;
-    }
-    if secret_key.len() != set.secret_key_octets()
-        || public_key.len() != set.public_key_octets()
-        || work.len() != set.work_words()
-    {
-        return refusal::LENGTH;
     }
     work.fill(0);
 
@@ -104,16 +106,17 @@ pub fn encrypt(
     work: &mut [u32],
     used: &mut u64,
 ) -> u32 {
-    let number = check(set);
+    let number = check_lengths(
+        set,
+        [
+            (public_key.len(), Set::public_key_octets),
+            (message.len(), Set::message_octets),
+            (ciphertext.len(), Set::ciphertext_octets),
+            (work.len(), Set::work_words),
+        ],
+    );
     if number != refusal::NONE {
         return number;
-    }
-    if public_key.len() != set.public_key_octets()
-        || message.len() != set.message_octets()
-        || ciphertext.len() != set.ciphertext_octets()
-        || work.len() != set.work_words()
-    {
-        return refusal::LENGTH;
     }
     work.fill(0);
 
@@ -160,15 +163,16 @@ fn draw_r_and_e(set: Set, draws: &mut Draws) -> Option<(Polynomial, Polynomial)>
 
 /// 01: adding two forms. Coefficient by coefficient modulo q.
 pub fn add(set: Set, a: &[u8], b: &[u8], sum: &mut [u8]) -> u32 {
-    let number = check(set);
+    let number = check_lengths(
+        set,
+        [
+            (a.len(), Set::ciphertext_octets),
+            (b.len(), Set::ciphertext_octets),
+            (sum.len(), Set::ciphertext_octets),
+        ],
+    );
     if number != refusal::NONE {
         return number;
-    }
-    if a.len() != set.ciphertext_octets()
-        || b.len() != set.ciphertext_octets()
-        || sum.len() != set.ciphertext_octets()
-    {
-        return refusal::LENGTH;
     }
     let a = octets::numbers_from_octets(set.qlen(), a);
     let b = octets::numbers_from_octets(set.qlen(), b);
@@ -190,16 +194,17 @@ pub fn decrypt(
     message: &mut [u8],
     work: &mut [u32],
 ) -> u32 {
-    let number = check(set);
+    let number = check_lengths(
+        set,
+        [
+            (secret_key.len(), Set::secret_key_octets),
+            (ciphertext.len(), Set::ciphertext_octets),
+            (message.len(), Set::message_octets),
+            (work.len(), Set::work_words),
+        ],
+    );
     if number != refusal::NONE {
         return number;
-    }
-    if secret_key.len() != set.secret_key_octets()
-        || ciphertext.len() != set.ciphertext_octets()
-        || message.len() != set.message_octets()
-        || work.len() != set.work_words()
-    {
-        return refusal::LENGTH;
     }
     work.fill(0);
 

@@ -14,6 +14,18 @@ pub struct Set {
     pub mlen: u32,
 }
 
+/// The set of these six numbers.
+pub const fn set(l: u32, q: u32, n: u32, dx: u32, dr: u32, mlen: u32) -> Set {
+    Set {
+        l,
+        q,
+        n,
+        dx,
+        dr,
+        mlen,
+    }
+}
+
 /// b, the bits of a small coefficient; `None` where l isn't 2, 4, 8 or 16.
 pub fn small_bits(l: u32) -> Option<u32> {
     match l {
@@ -62,6 +74,21 @@ pub fn check(set: Set) -> u32 {
     }
     if set.mlen > set.n * b || !set.mlen.is_multiple_of(b) {
         return refusal::MESSAGE_SIZE;
+    }
+    refusal::NONE
+}
+
+/// A length as a function of the set.
+pub type Length = fn(Set) -> usize;
+
+/// Tests 1 to 6: the set, then each length that is given beside the exact one.
+pub fn check_lengths<const N: usize>(set: Set, lengths: [(usize, Length); N]) -> u32 {
+    let number = check(set);
+    if number != refusal::NONE {
+        return number;
+    }
+    if lengths.iter().any(|(given, exact)| *given != exact(set)) {
+        return refusal::LENGTH;
     }
     refusal::NONE
 }
@@ -121,6 +148,14 @@ impl Set {
         self.dx + self.dr
     }
 
+    /// The same set with messages of all n coefficients.
+    pub fn whole(self) -> Set {
+        Set {
+            mlen: self.n * self.b(),
+            ..self
+        }
+    }
+
     /// n as a length.
     pub fn places(self) -> usize {
         self.n as usize
@@ -144,6 +179,11 @@ impl Set {
     /// Octets of a secret key: the packed u_x, then the packed u_y.
     pub fn secret_key_octets(self) -> usize {
         2 * self.small_octets()
+    }
+
+    /// Words of a secret key.
+    pub fn secret_key_words(self) -> usize {
+        2 * self.places()
     }
 
     /// Words of a public key.

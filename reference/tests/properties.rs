@@ -4,19 +4,8 @@ use reference::ledger::Ledger;
 use reference::prng::Prng;
 use reference::ring;
 use reference::scheme::{read_polynomial, read_secret_key};
-use reference::set::{bound, headroom};
+use reference::set::{bound, headroom, set};
 use reference::*;
-
-const fn set(l: u32, q: u32, n: u32, dx: u32, dr: u32, mlen: u32) -> Set {
-    Set {
-        l,
-        q,
-        n,
-        dx,
-        dr,
-        mlen,
-    }
-}
 
 /// Every l, every pair of degrees, every qlen that a set can have, odd lengths.
 const SETS: [Set; 20] = [
@@ -222,10 +211,7 @@ fn headroom_is_reached_and_not_passed() {
         if s > 3000 {
             continue;
         }
-        let set = Set {
-            mlen: set.n * set.b(),
-            ..set
-        };
+        let set = set.whole();
         let words = vec![set.l - 1; set.places()];
         let mut small = vec![0; set.small_octets()];
         assert_eq!(small_to_octets(set, &words, &mut small), 0);
@@ -542,5 +528,57 @@ fn conversions() {
             assert_eq!(small_from_octets(set, &padded[1..], &mut untouched), 6);
             assert_eq!(untouched, vec![77; n]);
         }
+    }
+}
+
+/// A secret key is its two halves, each with unused bits of its own; whole or halves alike.
+#[test]
+fn conversions_of_secret_keys() {
+    let mut prng = Prng::new(7);
+    for set in SETS {
+        let (n, half) = (set.places(), set.small_octets());
+        let words: Vec<u32> = (0..2 * n)
+            .map(|i| match i % 3 {
+                0 => set.l - 1,
+                _ => prng.below(u64::from(set.l)) as u32,
+            })
+            .collect();
+        let mut octets = vec![0xAA; set.secret_key_octets()];
+        assert_eq!(secret_key_to_octets(set, &words, &mut octets), 0);
+        let mut packed = vec![0xAA; half];
+        for (k, u) in words.chunks(n).enumerate() {
+            assert_eq!(small_to_octets(set, u, &mut packed), 0);
+            assert_eq!(octets[k * half..][..half], packed);
+        }
+        let (u_x, u_y) = read_secret_key(set, &octets).expect("no padding");
+        assert_eq!([u_x, u_y].concat(), words);
+        let mut back = vec![77; 2 * n];
+        assert_eq!(secret_key_from_octets(set, &octets, &mut back), 0);
+        assert_eq!(back, words);
+
+        // A word of l in either half; lengths off by one; nothing written.
+        let old = octets.clone();
+        for place in [0, n - 1, n, 2 * n - 1] {
+            let mut bad = words.clone();
+            bad[place] = set.l;
+            assert_eq!(secret_key_to_octets(set, &bad, &mut octets), 8);
+            assert_eq!(secret_key_to_octets(set, &bad[1..], &mut octets), 6);
+            assert_eq!(secret_key_to_octets(set, &bad, &mut octets[1..]), 6);
+        }
+        assert_eq!(octets, old);
+
+        // Each unused bit of either half.
+        back.fill(77);
+        for (k, bit) in (0..2).flat_map(|k| (n * set.b() as usize..8 * half).map(move |b| (k, b))) {
+            let mut padded = octets.clone();
+            padded[k * half + bit / 8] |= 1 << (bit % 8);
+            assert_eq!(secret_key_from_octets(set, &padded, &mut back), 7);
+            assert_eq!(secret_key_from_octets(set, &padded[1..], &mut back), 6);
+            assert_eq!(secret_key_from_octets(set, &padded, &mut back[1..]), 6);
+        }
+        let refused = Set { l: 3, ..set };
+        assert_eq!(secret_key_from_octets(refused, &octets, &mut back), 1);
+        assert_eq!(secret_key_to_octets(refused, &words, &mut octets), 1);
+        assert_eq!((back, octets), (vec![77; 2 * n], old));
     }
 }

@@ -3,17 +3,10 @@
 use reference::octets;
 use reference::ring::{self, Polynomial};
 use reference::scheme::{read_polynomial, read_secret_key};
-use reference::set::bound;
+use reference::set::{bound, set};
 use reference::*;
 
-const A: Set = Set {
-    l: 4,
-    q: 1459,
-    n: 2,
-    dx: 1,
-    dr: 1,
-    mlen: 4,
-};
+const A: Set = set(4, 1459, 2, 1, 1, 4);
 
 fn hex(text: &str) -> Vec<u8> {
     text.split_whitespace()
@@ -205,32 +198,9 @@ fn case_9() {
 
 #[test]
 fn case_10() {
-    let set = Set {
-        l: 2,
-        q: 100_679_684,
-        n: 4096,
-        dx: 1,
-        dr: 1,
-        mlen: 0,
-    };
-    assert_eq!(check(set), 0);
-    assert_eq!(
-        check(Set {
-            q: set.q - 1,
-            ..set
-        }),
-        4
-    );
-
-    let set = Set {
-        l: 16,
-        q: 2_147_483_647,
-        n: 4096,
-        dx: 2,
-        dr: 2,
-        mlen: 0,
-    };
-    assert_eq!(check(set), 4);
+    assert_eq!(check(set(2, 100_679_684, 4096, 1, 1, 0)), 0);
+    assert_eq!(check(set(2, 100_679_683, 4096, 1, 1, 0)), 4);
+    assert_eq!(check(set(16, 2_147_483_647, 4096, 2, 2, 0)), 4);
     // The bound passes 64 bits and is still exact.
     let top = 5 * (1u128 << 48) * 759_375;
     let lower = 4 * (1u128 << 36) * 50_625 + 3 * (1 << 24) * 3375 + 2 * 4096 * 225 + 15;
@@ -240,24 +210,10 @@ fn case_10() {
 
 #[test]
 fn case_11() {
-    let set = Set {
-        l: 4,
-        q: 467_424_411,
-        n: 1201,
-        dx: 1,
-        dr: 1,
-        mlen: 2402,
-    };
-    assert_eq!(check(set), 4);
     assert_eq!(bound(4, 1201, 2), 467_424_411);
-    assert_eq!(set.q % 3, 0);
-    assert_eq!(
-        check(Set {
-            q: set.q + 1,
-            ..set
-        }),
-        0
-    );
+    assert_eq!(467_424_411 % 3, 0);
+    assert_eq!(check(set(4, 467_424_411, 1201, 1, 1, 2402)), 4);
+    assert_eq!(check(set(4, 467_424_412, 1201, 1, 1, 2402)), 0);
 }
 
 #[test]
@@ -280,4 +236,15 @@ fn conversions_of_the_worked_octets() {
     assert_eq!(small_from_octets(A, &[0x09], &mut words), 0);
     assert_eq!(words, [1, 2]);
     assert_eq!(octets::pack(2, &words, 1), [0x09]);
+
+    // 09 04 is 1 + 2t, then t; the padding of either half is refusal 7.
+    let mut words = [0; 4];
+    assert_eq!(secret_key_from_octets(A, &secret_key(), &mut words), 0);
+    assert_eq!(words, [1, 2, 0, 1]);
+    let mut back = [0; 2];
+    assert_eq!(secret_key_to_octets(A, &words, &mut back), 0);
+    assert_eq!(back[..], secret_key());
+    assert_eq!(secret_key_from_octets(A, &[0x19, 0x04], &mut words), 7);
+    assert_eq!(secret_key_from_octets(A, &[0x09, 0x84], &mut words), 7);
+    assert_eq!(secret_key_to_octets(A, &[1, 2, 0, 4], &mut back), 8);
 }

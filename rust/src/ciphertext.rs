@@ -5,7 +5,7 @@ use std::ops::Add;
 
 use crate::error::Error;
 use crate::ffi;
-use crate::octets::{judged_octets, judged_octets_equal, judged_octets_shown, WELL_FORMED};
+use crate::octets::{judged_octets, judged_octets_equal, judged_octets_shown, judged_octets_words};
 use crate::parameters::{AnySet, FixedSet, Parameters};
 
 /// What encryption makes.
@@ -59,26 +59,15 @@ pub struct Ciphertext<S = AnySet> {
 judged_octets!(Ciphertext);
 judged_octets_equal!(Ciphertext);
 judged_octets_shown!(Ciphertext);
+judged_octets_words! {
+    Ciphertext: ciphertext_from_octets, ciphertext_to_octets, ciphertext_len, ciphertext_words;
+    /// From its coefficients, element by element: refusal 6 for another number of words, 8 for a word of q or more.
+    from_words;
+    /// Its coefficients, element by element, by falling total degree and then by falling power of x.
+    to_words;
+}
 
 impl<S> Ciphertext<S> {
-    fn judge(set: &Parameters<S>, octets: &[u8]) -> Result<(), Error> {
-        ffi::ciphertext_from_octets(set.numbers(), octets, &mut vec![0; set.ciphertext_words()])
-    }
-
-    /// From its coefficients, element by element: refusal 6 for another number of words, 8 for a word of q or more.
-    pub fn from_words(set: &Parameters<S>, words: &[u32]) -> Result<Self, Error> {
-        let mut octets = vec![0; set.ciphertext_len()];
-        ffi::ciphertext_to_octets(set.numbers(), words, &mut octets)?;
-        Ok(Self::judged(*set, octets))
-    }
-
-    /// Its coefficients, element by element, by falling total degree and then by falling power of x.
-    pub fn to_words(&self) -> Vec<u32> {
-        let mut words = vec![0; self.set.ciphertext_words()];
-        ffi::ciphertext_from_octets(self.set.numbers(), &self.octets, &mut words).expect(WELL_FORMED);
-        words
-    }
-
     /// The sum of two ciphertexts, which may be one.
     pub fn try_add(&self, other: &Self) -> Result<Self, Error> {
         self.set.same(&other.set)?;

@@ -285,6 +285,8 @@ conversions! {
         element_from_octets element_to_octets: "a ring element";
     giophantus_small_from_octets giophantus_small_to_octets,
         small_from_octets small_to_octets: "a small element";
+    giophantus_secret_key_from_octets giophantus_secret_key_to_octets,
+        secret_key_from_octets secret_key_to_octets: "a secret key";
     giophantus_public_key_from_octets giophantus_public_key_to_octets,
         public_key_from_octets public_key_to_octets: "a public key";
     giophantus_ciphertext_from_octets giophantus_ciphertext_to_octets,

@@ -7,7 +7,9 @@ use crate::ciphertext::{Ciphertext, Encrypted};
 use crate::error::Error;
 use crate::ffi;
 use crate::message::Message;
-use crate::octets::{judged_octets, judged_octets_equal, judged_octets_hidden, judged_octets_shown, WELL_FORMED};
+use crate::octets::{
+    judged_octets, judged_octets_equal, judged_octets_hidden, judged_octets_shown, judged_octets_words,
+};
 use crate::parameters::{AnySet, FixedSet, Parameters};
 use crate::random;
 use crate::workspace;
@@ -62,36 +64,28 @@ pub struct SecretKey<S = AnySet> {
 
 judged_octets!(SecretKey);
 judged_octets_hidden!(SecretKey);
+judged_octets_words! {
+    SecretKey: secret_key_from_octets, secret_key_to_octets, secret_key_len, secret_key_words;
+    /// From the n coefficients of u_x and then of u_y: refusal 6 for another number of words, 8 for a word of ℓ or more.
+    ///
+    /// ```
+    /// use giophantus::{Error, Parameters, SecretKey};
+    ///
+    /// let set = Parameters::new(4, 1459, 2, 1, 1, 4)?;
+    /// let secret_key = SecretKey::from_words(&set, &[1, 2, 0, 1])?; // 1 + 2t, then t
+    /// assert_eq!(secret_key.as_ref(), [0x09, 0x04]);
+    /// assert_eq!(secret_key.to_words(), [1, 2, 0, 1]);
+    ///
+    /// let refused = SecretKey::from_words(&set, &[1, 2, 0, 4]).unwrap_err();
+    /// assert_eq!(refused, Error::Coefficient);
+    /// # Ok::<(), Error>(())
+    /// ```
+    from_words;
+    /// The n coefficients of u_x and then of u_y.
+    to_words;
+}
 
 impl<S> SecretKey<S> {
-    fn judge(set: &Parameters<S>, octets: &[u8]) -> Result<(), Error> {
-        if octets.len() != set.secret_key_len() {
-            return Err(Error::Length);
-        }
-        for half in octets.chunks_exact(set.small_len()) {
-            set.small_from_octets(half)?;
-        }
-        Ok(())
-    }
-
-    /// From the n coefficients of u_x and then of u_y: refusal 6 for another number of words, 8 for a word of ℓ or more.
-    pub fn from_words(set: &Parameters<S>, words: &[u32]) -> Result<Self, Error> {
-        if words.len() != 2 * set.places() {
-            return Err(Error::Length);
-        }
-        let mut octets = Vec::with_capacity(set.secret_key_len());
-        for half in words.chunks_exact(set.places()) {
-            octets.extend(set.small_to_octets(half)?);
-        }
-        Ok(Self::judged(*set, octets))
-    }
-
-    /// The n coefficients of u_x and then of u_y.
-    pub fn to_words(&self) -> Vec<u32> {
-        let halves = self.octets.chunks_exact(self.set.small_len());
-        halves.flat_map(|half| self.set.small_from_octets(half).expect(WELL_FORMED)).collect()
-    }
-
     /// The same secret key under the set for blank fields ([`Parameters::blank`]).
     pub fn blank(&self) -> SecretKey {
         SecretKey::judged(self.set.blank(), self.octets.clone())
@@ -155,26 +149,15 @@ pub struct PublicKey<S = AnySet> {
 judged_octets!(PublicKey);
 judged_octets_equal!(PublicKey);
 judged_octets_shown!(PublicKey);
+judged_octets_words! {
+    PublicKey: public_key_from_octets, public_key_to_octets, public_key_len, public_key_words;
+    /// From its coefficients, element by element: refusal 6 for another number of words, 8 for a word of q or more.
+    from_words;
+    /// Its coefficients, element by element, by falling total degree and then by falling power of x.
+    to_words;
+}
 
 impl<S> PublicKey<S> {
-    fn judge(set: &Parameters<S>, octets: &[u8]) -> Result<(), Error> {
-        ffi::public_key_from_octets(set.numbers(), octets, &mut vec![0; set.public_key_words()])
-    }
-
-    /// From its coefficients, element by element: refusal 6 for another number of words, 8 for a word of q or more.
-    pub fn from_words(set: &Parameters<S>, words: &[u32]) -> Result<Self, Error> {
-        let mut octets = vec![0; set.public_key_len()];
-        ffi::public_key_to_octets(set.numbers(), words, &mut octets)?;
-        Ok(Self::judged(*set, octets))
-    }
-
-    /// Its coefficients, element by element, by falling total degree and then by falling power of x.
-    pub fn to_words(&self) -> Vec<u32> {
-        let mut words = vec![0; self.set.public_key_words()];
-        ffi::public_key_from_octets(self.set.numbers(), &self.octets, &mut words).expect(WELL_FORMED);
-        words
-    }
-
     /// The same public key under the set for blank fields ([`Parameters::blank`]).
     ///
     /// ```

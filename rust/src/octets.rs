@@ -76,6 +76,38 @@ macro_rules! judged_octets {
     };
 }
 
+/// Words of a type that holds judged octets, by the two conversions of the C interface, of which the one from octets is
+/// its `judge` too. Given are their names, the type's lengths in octets and in words, and what each function's
+/// documentation says.
+macro_rules! judged_octets_words {
+    (
+        $type:ident: $from_octets:ident, $to_octets:ident, $len:ident, $words:ident;
+        $(#[$from_words:meta])* from_words;
+        $(#[$to_words:meta])* to_words;
+    ) => {
+        impl<S> $type<S> {
+            fn judge(set: &Parameters<S>, octets: &[u8]) -> Result<(), Error> {
+                ffi::$from_octets(set.numbers(), octets, &mut vec![0; set.$words()])
+            }
+
+            $(#[$from_words])*
+            pub fn from_words(set: &Parameters<S>, words: &[u32]) -> Result<Self, Error> {
+                let mut octets = vec![0; set.$len()];
+                ffi::$to_octets(set.numbers(), words, &mut octets)?;
+                Ok(Self::judged(*set, octets))
+            }
+
+            $(#[$to_words])*
+            pub fn to_words(&self) -> Vec<u32> {
+                let mut words = vec![0; self.set.$words()];
+                let converted = ffi::$from_octets(self.set.numbers(), &self.octets, &mut words);
+                converted.expect($crate::octets::WELL_FORMED);
+                words
+            }
+        }
+    };
+}
+
 /// Equality of judged octets under one set; not for secret keys.
 macro_rules! judged_octets_equal {
     ($type:ident) => {
@@ -114,4 +146,4 @@ macro_rules! judged_octets_hidden {
     };
 }
 
-pub(crate) use {judged_octets, judged_octets_equal, judged_octets_hidden, judged_octets_shown};
+pub(crate) use {judged_octets, judged_octets_equal, judged_octets_hidden, judged_octets_shown, judged_octets_words};

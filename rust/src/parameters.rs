@@ -244,6 +244,11 @@ impl<S> Parameters<S> {
         self.n() as usize
     }
 
+    /// Words of a secret key.
+    pub(crate) fn secret_key_words(&self) -> usize {
+        2 * self.places()
+    }
+
     /// Words of a public key.
     pub(crate) fn public_key_words(&self) -> usize {
         monomials(self.dx()) * self.places()

@@ -182,7 +182,12 @@ fn words_and_octets_are_inverse() {
         assert_eq!(set.element_from_octets(&set.element_to_octets(&element).unwrap()).unwrap(), element);
         let small: Vec<u32> = (0..2 * n).map(|_| octets.below(set.l())).collect();
         assert_eq!(set.small_from_octets(&set.small_to_octets(&small[..n]).unwrap()).unwrap(), small[..n]);
-        assert_eq!(SecretKey::from_words(&set, &small).unwrap().to_words(), small);
+        let secret_key = SecretKey::from_words(&set, &small).unwrap();
+        assert_eq!(secret_key.to_words(), small);
+        let halves = [&small[..n], &small[n..]].map(|half| set.small_to_octets(half).unwrap());
+        assert_eq!(secret_key.as_ref(), halves.concat());
+        let same = SecretKey::try_from((&set, secret_key.as_ref())).unwrap();
+        assert_eq!(same.to_words(), small);
 
         let words = set.public_key_len() / set.coefficient_len();
         let words: Vec<u32> = (0..words).map(|_| octets.below(set.q())).collect();
@@ -212,8 +217,15 @@ fn words_that_are_too_large_or_too_many_are_refused() {
         assert_eq!(set.element_to_octets(&last(n + 1, 0)), Err(Error::Length));
         assert!(set.small_to_octets(&last(n, set.l() - 1)).is_ok());
         assert_eq!(set.small_to_octets(&last(n, set.l())), Err(Error::Coefficient));
-        assert_eq!(SecretKey::from_words(&set, &last(2 * n, set.l())).unwrap_err(), Error::Coefficient);
-        assert_eq!(SecretKey::from_words(&set, &last(2 * n - 1, 0)).unwrap_err(), Error::Length);
+        assert!(SecretKey::from_words(&set, &last(2 * n, set.l() - 1)).is_ok());
+        for mut words in [last(2 * n, set.l()), [last(n, set.l()), last(n, 0)].concat()] {
+            assert_eq!(SecretKey::from_words(&set, &words).unwrap_err(), Error::Coefficient);
+            words.push(0);
+            assert_eq!(SecretKey::from_words(&set, &words).unwrap_err(), Error::Length);
+        }
+        for len in [n, 2 * n - 1] {
+            assert_eq!(SecretKey::from_words(&set, &last(len, set.l())).unwrap_err(), Error::Length);
+        }
         let (words, ciphertext_words) =
             (set.public_key_len() / set.coefficient_len(), set.ciphertext_len() / set.coefficient_len());
         assert_eq!(PublicKey::from_words(&set, &last(words, set.q())), Err(Error::Coefficient));

@@ -1,5 +1,5 @@
-//! Says where the static library lies: in GIOPHANTUS_LIB_DIR (an absolute path), or where
-//! `rt staticlib giophantus` writes it.
+//! Says where the static library lies: in GIOPHANTUS_LIB_DIR (an absolute path), or where `tests/archive`
+//! writes it.
 
 use std::env;
 use std::path::{Path, PathBuf};

@@ -1,38 +1,30 @@
 -- Why the value that is found is that of the definitions: the octets' coefficients are the polynomial's, and the first two parts the secret's.
 --
---   polynomialFrom-flat    the coefficients as they stand in the octets
 --   value-sizes, value-octets, value-modulus, unpacked-..    what taking the value asks
 --   valued-..              what each return leaves
 -- Assumes nothing.
-use Prim.Native.Nat.{ℕ, suc, _+_, _*_, _%_, _≤_, _<_}
+use Prim.Native.Nat.{ℕ, _*_, _%_, _≤_, _<_}
 use mathlib.Core.Path.{_≡_, refl, sym, ap, _∙_}
 use mathlib.Core.Bool.{true, false}
 use mathlib.Core.List.{List}
-use native.Mathlib.Nat.{mul-le-mul-right, lt-of-lt-of-le}
+use native.Mathlib.Nat.{lt-of-lt-of-le}
 use native.Mathlib.Omega.{arith}
 use lib.ListN.{length}
 use Rattle.definitions.specs.Parameters.{Parameters, qlen, monomialCount, elementsLength, workLength}
 use Rattle.definitions.specs.Ring.{InRing, modulo}
-use Rattle.definitions.specs.Monomials.{polynomialOf, value}
+use Rattle.definitions.specs.Monomials.{value}
 use Rattle.definitions.specs.Octets.{decoded}
 use Rattle.definitions.specs.Calls.{secretX, secretY, secretBitsClear, decodedElements, polynomialFrom, elementsFit}
 use Rattle.definitions.proofs.Refusals.{firstRefusal-applies, firstRefusal-passes}
 use Rattle.definitions.proofs.Parameters.{Accepted, accepted-set, modulus-positive, modulus-least, modulus-word, qlen-least, qlen-most, range-most}
-use Rattle.definitions.proofs.Octets.{getD-decoded}
 use Rattle.definitions.proofs.Small.{smallOf-below}
-use Rattle.definitions.proofs.Values.{value-cong, value-cong-secret}
+use Rattle.definitions.proofs.Values.{value-cong-secret}
 use Rattle.ring.specs.Work.{part}
-use Rattle.decoding.specs.Elements.{Sizes, flat}
+use Rattle.decoding.specs.Elements.{Sizes}
 use Rattle.judging.specs.Reading.{fitNumber}
 use Rattle.secrets.specs.Secrets.{ValueInputs, Unpacked, Valued, valueFrom}
 
 module _ (p : Parameters) (d : ℕ) (secret octets : List ℕ) where
-  pub polynomialFrom-flat : (i : ℕ) → i < monomialCount d → (k : ℕ) → k < p .n → flat (p .n) (qlen (p .q)) octets i k ≡ polynomialFrom p d octets i k
-  unfolding polynomialFrom polynomialOf decodedElements
-  polynomialFrom-flat i l k s =
-      let inside : suc i * p .n ≤ monomialCount d * p .n = mul-le-mul-right (p .n) l in
-      sym (getD-decoded (qlen (p .q)) (monomialCount d * p .n) octets (omega arith))
-
   module _ {work : List ℕ} (exact : ValueInputs p d secret octets work) where
     set : Accepted p
     set = accepted-set p (exact .set)
@@ -73,7 +65,7 @@ module _ (p : Parameters) (d : ℕ) (secret octets : List ℕ) where
 
   pub valued-read : {mid new : List ℕ} {r : ℕ} → secretBitsClear p secret ≡ true → Unpacked p secret mid
       → r ≡ fitNumber (p .q) (decoded (qlen (p .q)) (monomialCount d * p .n) octets)
-      → (r ≡ 0 → (k : ℕ) → k < p .n → part new (2 * p .n) k ≡ value (p .n) d (flat (p .n) (qlen (p .q)) octets) (part mid 0) (part mid (p .n)) k % p .q)
+      → (r ≡ 0 → (k : ℕ) → k < p .n → part new (2 * p .n) k ≡ value (p .n) d (polynomialFrom p octets) (part mid 0) (part mid (p .n)) k % p .q)
       → Valued p d secret octets r new
   unfolding modulo fitNumber elementsFit decodedElements
   valued-read {mid} clear u number found =
@@ -81,7 +73,5 @@ module _ (p : Parameters) (d : ℕ) (secret octets : List ℕ) where
         number = number ∙ sym (firstRefusal-passes 7 _ _ (rw clear));
         value = λ z k l.
             found z k l
-            ∙ ap (λ (v : ℕ). v % p .q)
-            (value-cong (p .n) d (part mid 0) (part mid (p .n)) polynomialFrom-flat k
-            ∙ value-cong-secret (p .n) d (polynomialFrom p d octets) (u .x) (u .y) k);
+            ∙ ap (λ (v : ℕ). v % p .q) (value-cong-secret (p .n) d (polynomialFrom p octets) (u .x) (u .y) k);
       }

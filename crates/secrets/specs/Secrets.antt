@@ -1,7 +1,7 @@
 -- What decryption and the zero test share: a polynomial of degree d in octets, and its value at a secret.
 --
 --   half             the octets of one small element, from a place of the secret on
---   ValueInputs            a set and buffers that pass the tests up to the length test
+--   ValueInputs      a set and buffers that pass the tests up to the length test
 --   judgeTests       the tests that follow it in both calls: 7 of the secret, 8 of the polynomial
 --   valueFrom        the polynomial's value at the secret, in R_q
 --   Unpacked         both elements of the secret stand in the first two parts of the work words
@@ -36,7 +36,7 @@ judgeTests p d secret octets =
     refuse 7 (not (secretBitsClear p secret)) ∷ refuse 8 (not (elementsFit p (monomialCount d) octets)) ∷ []
 
 abbrev pub valueFrom : Parameters → ℕ → List ℕ → List ℕ → Element
-valueFrom p d secret octets = modulo (p .q) (value (p .n) d (polynomialFrom p d octets) (secretX p secret) (secretY p secret))
+valueFrom p d secret octets = modulo (p .q) (value (p .n) d (polynomialFrom p octets) (secretX p secret) (secretY p secret))
 
 pub record Unpacked (p : Parameters) (secret work : List ℕ) : Type 0 where
   pub x : (k : ℕ) → k < p .n → part work 0 k ≡ secretX p secret k

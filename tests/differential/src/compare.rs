@@ -1,6 +1,7 @@
 //! Each call of the interface, made by the library and by the reference implementation on the same
 //! arguments and judged. `inline` as in `ffi`.
 
+use reference::octets::{numbers_to_octets, pack};
 use reference::Set;
 
 use crate::buffer::Buffer;
@@ -366,28 +367,57 @@ pub enum Kind {
     Small,
     PublicKey,
     Ciphertext,
+    SecretKey,
 }
 
-pub const KINDS: [Kind; 4] = [
+pub const KINDS: [Kind; 5] = [
     Kind::Element,
     Kind::Small,
     Kind::PublicKey,
     Kind::Ciphertext,
+    Kind::SecretKey,
 ];
 
 impl Kind {
+    /// Whether its coefficients are small, and packed.
+    pub fn is_packed(self) -> bool {
+        matches!(self, Kind::Small | Kind::SecretKey)
+    }
+
+    /// The least number that a coefficient of this kind may not be.
+    pub fn limit(self, set: Set) -> u32 {
+        if self.is_packed() {
+            set.l
+        } else {
+            set.q
+        }
+    }
+
     pub fn words(self, set: Set) -> usize {
         match self {
             Kind::Element | Kind::Small => set.places(),
             Kind::PublicKey => set.public_key_words(),
             Kind::Ciphertext => set.ciphertext_words(),
+            Kind::SecretKey => set.secret_key_words(),
         }
     }
 
     pub fn octets(self, set: Set) -> usize {
         match self {
             Kind::Small => set.small_octets(),
+            Kind::SecretKey => set.secret_key_octets(),
             _ => self.words(set) * set.qlen(),
+        }
+    }
+
+    /// The octets of accepted words.
+    pub fn octets_of(self, set: Set, words: &[u32]) -> Vec<u8> {
+        if self.is_packed() {
+            let packed = words.chunks(set.places());
+            let packed = packed.map(|one| pack(set.b(), one, set.small_octets()));
+            packed.collect::<Vec<_>>().concat()
+        } else {
+            numbers_to_octets(set.qlen(), words)
         }
     }
 
@@ -397,6 +427,7 @@ impl Kind {
             Kind::Small => "small_from_octets",
             Kind::PublicKey => "public_key_from_octets",
             Kind::Ciphertext => "ciphertext_from_octets",
+            Kind::SecretKey => "secret_key_from_octets",
         }
     }
 
@@ -406,6 +437,7 @@ impl Kind {
             Kind::Small => "small_to_octets",
             Kind::PublicKey => "public_key_to_octets",
             Kind::Ciphertext => "ciphertext_to_octets",
+            Kind::SecretKey => "secret_key_to_octets",
         }
     }
 }
@@ -428,6 +460,7 @@ pub fn from_octets(
         Kind::Small => ffi::small_from_octets(set, given, written),
         Kind::PublicKey => ffi::public_key_from_octets(set, given, written),
         Kind::Ciphertext => ffi::ciphertext_from_octets(set, given, written),
+        Kind::SecretKey => ffi::secret_key_from_octets(set, given, written),
     };
     let (given, written) = (octets.wanted(), words.wanted());
     let wanted = match kind {
@@ -435,6 +468,7 @@ pub fn from_octets(
         Kind::Small => reference::small_from_octets(set, given, written),
         Kind::PublicKey => reference::public_key_from_octets(set, given, written),
         Kind::Ciphertext => reference::ciphertext_from_octets(set, given, written),
+        Kind::SecretKey => reference::secret_key_from_octets(set, given, written),
     };
     run.judge(Made {
         call: kind.from_name(),
@@ -466,6 +500,7 @@ pub fn to_octets(
         Kind::Small => ffi::small_to_octets(set, given, written),
         Kind::PublicKey => ffi::public_key_to_octets(set, given, written),
         Kind::Ciphertext => ffi::ciphertext_to_octets(set, given, written),
+        Kind::SecretKey => ffi::secret_key_to_octets(set, given, written),
     };
     let (given, written) = (words.wanted(), octets.wanted());
     let wanted = match kind {
@@ -473,6 +508,7 @@ pub fn to_octets(
         Kind::Small => reference::small_to_octets(set, given, written),
         Kind::PublicKey => reference::public_key_to_octets(set, given, written),
         Kind::Ciphertext => reference::ciphertext_to_octets(set, given, written),
+        Kind::SecretKey => reference::secret_key_to_octets(set, given, written),
     };
     run.judge(Made {
         call: kind.to_name(),

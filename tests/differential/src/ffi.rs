@@ -80,6 +80,8 @@ interface! {
     element_to_octets as giophantus_element_to_octets(words: &[u32], octets: &mut [u8]);
     small_from_octets as giophantus_small_from_octets(octets: &[u8], words: &mut [u32]);
     small_to_octets as giophantus_small_to_octets(words: &[u32], octets: &mut [u8]);
+    secret_key_from_octets as giophantus_secret_key_from_octets(octets: &[u8], words: &mut [u32]);
+    secret_key_to_octets as giophantus_secret_key_to_octets(words: &[u32], octets: &mut [u8]);
     public_key_from_octets as giophantus_public_key_from_octets(octets: &[u8], words: &mut [u32]);
     public_key_to_octets as giophantus_public_key_to_octets(words: &[u32], octets: &mut [u8]);
     ciphertext_from_octets as giophantus_ciphertext_from_octets(octets: &[u8], words: &mut [u32]);

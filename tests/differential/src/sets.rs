@@ -1,7 +1,7 @@
 //! Parameter sets to try: every l, degree and number of octets, with q at its limits.
 
 use reference::prng::Prng;
-use reference::set::{bound, small_bits};
+use reference::set::{bound, set, small_bits};
 use reference::Set;
 
 /// The four l.
@@ -92,13 +92,6 @@ pub fn sets_with(l: u32, n: u32, (dx, dr): (u32, u32), prng: &mut Prng) -> Vec<S
     moduli.push(random_modulus(least, prng));
     moduli
         .into_iter()
-        .map(|q| Set {
-            l,
-            q,
-            n,
-            dx,
-            dr,
-            mlen: random_mlen(l, n, prng),
-        })
+        .map(|q| set(l, q, n, dx, dr, random_mlen(l, n, prng)))
         .collect()
 }

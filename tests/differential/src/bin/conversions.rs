@@ -1,4 +1,4 @@
-//! The eight conversions beside the reference implementation.
+//! The ten conversions beside the reference implementation.
 
 use std::collections::BTreeSet;
 
@@ -6,10 +6,8 @@ use differential::compare::{from_octets, to_octets, Kind, KINDS};
 use differential::inputs;
 use differential::run::{run_group, Run};
 use differential::sets::{largest_n, sets_with, DEGREES, MOST_Q, RANGES};
-use differential::spoil::{
-    spoil_coefficient, spoil_input, spoil_length, spoil_padding, spoiled_number, ways,
-};
-use reference::octets::{numbers_to_octets, pack};
+use differential::spoil::{spoil_coefficient, spoil_input, spoil_length, spoiled_number, ways};
+use reference::set::set;
 use reference::Set;
 
 /// The n that are tried with every l and degree, beside the largest that is accepted.
@@ -18,46 +16,33 @@ const RINGS: [u32; 8] = [2, 3, 7, 8, 9, 64, 1201, 4096];
 /// How many coefficients the library takes at once, in one loop or another.
 const BLOCKS: [usize; 5] = [32, 64, 128, 256, 512];
 
-/// The eight calls, each with its refusal of what it is given to convert.
+/// The ten calls, each with its refusal of what it is given to convert.
 fn calls() -> impl Iterator<Item = (&'static str, u32)> {
     KINDS.into_iter().flat_map(|kind| {
-        let from = if kind == Kind::Small { 7 } else { 8 };
+        let from = if kind.is_packed() { 7 } else { 8 };
         [(kind.from_name(), from), (kind.to_name(), 8)]
     })
 }
 
-/// The least number that a coefficient of this kind may not be.
-fn limit(kind: Kind, set: Set) -> u32 {
-    match kind {
-        Kind::Small => set.l,
-        _ => set.q,
-    }
-}
-
-fn octets_of(kind: Kind, set: Set, words: &[u32]) -> Vec<u8> {
-    match kind {
-        Kind::Small => pack(set.b(), words, set.small_octets()),
-        _ => numbers_to_octets(set.qlen(), words),
-    }
-}
-
 /// Both directions on accepted numbers: each gives back what the other was given.
 fn there_and_back(run: &mut Run, set: Set, kind: Kind) {
-    let words = inputs::below(limit(kind, set), kind.words(set), &mut run.prng);
-    let octets = octets_of(kind, set, &words);
+    let words = inputs::below(kind.limit(set), kind.words(set), &mut run.prng);
+    let octets = kind.octets_of(set, &words);
     let (number, got) = to_octets(run, set, kind, &words, octets.len());
     run.expect(number == 0 && got == octets, set, "words to octets");
     let (number, got) = from_octets(run, set, kind, &octets, words.len());
     run.expect(number == 0 && got == words, set, "octets to words");
 }
 
-/// Places to put a number at: all where there are few, otherwise the first, the last and some.
+/// Places to put a number at: all where there are few, otherwise the first, the last, both sides of the
+/// middle, where the halves of a secret key meet, and some.
 fn places(run: &mut Run, length: usize) -> Vec<usize> {
     if length <= 32 {
         return (0..length).collect();
     }
     let any = (0..4).map(|_| run.prng.below(length as u64) as usize);
-    any.chain([0, length - 1]).collect()
+    any.chain([0, length / 2 - 1, length / 2, length - 1])
+        .collect()
 }
 
 /// The places on both sides of where the first block of each size ends and the last one starts.
@@ -84,7 +69,7 @@ fn trials(run: &mut Run, length: usize, limit: u32, numbers: &[u32]) -> Vec<(usi
 
 /// One word at the limits of what is accepted, the others anything.
 fn boundary_words(run: &mut Run, set: Set, kind: Kind) {
-    let limit = limit(kind, set);
+    let limit = kind.limit(set);
     let mut numbers = vec![0, limit - 1, limit, limit + 1, u32::MAX, 1 << 31];
     if set.qlen() < 4 {
         // Numbers whose low octets alone are accepted.
@@ -116,14 +101,33 @@ fn boundary_coefficients(run: &mut Run, set: Set, kind: Kind) {
     }
 }
 
-/// Each unused bit of a packed element alone.
-fn unused_bits(run: &mut Run, set: Set) {
-    let packed = inputs::small(set, &mut run.prng);
-    for bit in set.places() * set.b() as usize..8 * packed.len() {
-        let mut wrong = packed.clone();
-        wrong[bit / 8] |= 1 << (bit % 8);
-        let (number, _) = from_octets(run, set, Kind::Small, &wrong, set.places());
-        run.expect(number == 7, set, "an unused bit is 7");
+/// Each unused bit of a packed element alone, and of either half of a secret key.
+fn unused_bits(run: &mut Run, set: Set, kind: Kind) {
+    let words = inputs::below(set.l, kind.words(set), &mut run.prng);
+    let packed = kind.octets_of(set, &words);
+    for start in (0..packed.len()).step_by(set.small_octets()) {
+        for bit in set.places() * set.b() as usize..8 * set.small_octets() {
+            let mut wrong = packed.clone();
+            wrong[start + bit / 8] |= 1 << (bit % 8);
+            let (number, _) = from_octets(run, set, kind, &wrong, words.len());
+            run.expect(number == 7, set, "an unused bit is 7");
+        }
+    }
+}
+
+/// Each buffer one too short, one too long, and half as long.
+fn wrong_lengths(run: &mut Run, set: Set, kind: Kind) {
+    let near = |length: usize| [length - 1, length + 1, length / 2];
+    let (octets, words) = (kind.octets(set), kind.words(set));
+    for length in near(octets) {
+        let (from, _) = from_octets(run, set, kind, &vec![0; length], words);
+        let (to, _) = to_octets(run, set, kind, &vec![0; words], length);
+        run.expect(from == 6 && to == 6, set, "another number of octets is 6");
+    }
+    for length in near(words) {
+        let (from, _) = from_octets(run, set, kind, &vec![0; octets], length);
+        let (to, _) = to_octets(run, set, kind, &vec![0; length], octets);
+        run.expect(from == 6 && to == 6, set, "another number of words is 6");
     }
 }
 
@@ -138,23 +142,24 @@ fn garbage(run: &mut Run, set: Set, kind: Kind) {
 }
 
 /// Each refusal, and several at once. Kinds 0 to 4 are the set's refusals, 5 and 6 the lengths, 7
-/// is padding, 8 a coefficient.
+/// is a coefficient, 8 padding, 9 that of a secret key's second half.
 fn refusals(run: &mut Run, set: Set, kind: Kind, more: usize) {
-    let words = inputs::below(limit(kind, set), kind.words(set), &mut run.prng);
-    let octets = octets_of(kind, set, &words);
-    for way in ways(9, more, &mut run.prng) {
+    let words = inputs::below(kind.limit(set), kind.words(set), &mut run.prng);
+    let octets = kind.octets_of(set, &words);
+    let kinds = if kind == Kind::SecretKey { 10 } else { 9 };
+    for way in ways(kinds, more, &mut run.prng) {
         let prng = &mut run.prng;
         let mut given = octets.clone();
         let mut words = words.clone();
-        if way.has(7) && kind == Kind::Small {
-            spoil_padding(&mut given, set.places() * set.b() as usize, prng);
+        if kind.is_packed() {
+            way.padding(8, set, &mut given, prng);
         }
-        if way.has(8) {
-            if kind != Kind::Small {
+        if way.has(7) {
+            if !kind.is_packed() {
                 spoil_coefficient(set, &mut given, prng);
             }
             let place = prng.below(words.len() as u64) as usize;
-            words[place] = spoiled_number(limit(kind, set), 32, prng);
+            words[place] = spoiled_number(kind.limit(set), 32, prng);
         }
         let wrong = way.set(set, prng);
         let (mut octets_length, mut words_length) = (given.len(), words.len());
@@ -179,25 +184,20 @@ fn one_set(run: &mut Run, set: Set) {
             there_and_back(run, set, kind);
         }
         boundary_words(run, set, kind);
-        if kind != Kind::Small {
+        if kind.is_packed() {
+            unused_bits(run, set, kind);
+        } else {
             boundary_coefficients(run, set, kind);
         }
         garbage(run, set, kind);
+        wrong_lengths(run, set, kind);
         refusals(run, set, kind, if set.n <= 64 { 20 } else { 4 });
     }
-    unused_bits(run, set);
 }
 
 /// Worked case 7: coefficient 1458 of a key is accepted, 1459 is refusal 8.
 fn worked(run: &mut Run) {
-    let set = Set {
-        l: 4,
-        q: 1459,
-        n: 2,
-        dx: 1,
-        dr: 1,
-        mlen: 4,
-    };
+    let set = set(4, 1459, 2, 1, 1, 4);
     let key = [5, 0, 7, 0, 0x64, 0, 1, 0, 0x9F, 5, 0x3E, 5];
     let words = [5, 7, 100, 1, 1439, 1342];
     let (number, got) = from_octets(run, set, Kind::PublicKey, &key, 6);
@@ -214,18 +214,23 @@ fn worked(run: &mut Run) {
     run.expect(number == 0 && got == [1, 2], set, "1 + 2t is 09");
     let (number, _) = from_octets(run, set, Kind::Small, &[0x19], 2);
     run.expect(number == 7, set, "an unused bit is 7");
+    let (number, got) = from_octets(run, set, Kind::SecretKey, &[0x09, 0x04], 4);
+    run.expect(
+        number == 0 && got == [1, 2, 0, 1],
+        set,
+        "the secret of case 2",
+    );
+    let (number, got) = to_octets(run, set, Kind::SecretKey, &[1, 2, 0, 1], 2);
+    run.expect(
+        number == 0 && got == [0x09, 0x04],
+        set,
+        "the secret of case 2",
+    );
 }
 
 /// No q is accepted: refusal 4, whatever the lengths are.
 fn too_large(run: &mut Run, l: u32, n: u32, (dx, dr): (u32, u32)) {
-    let set = Set {
-        l,
-        q: MOST_Q,
-        n,
-        dx,
-        dr,
-        mlen: 0,
-    };
+    let set = set(l, MOST_Q, n, dx, dr, 0);
     for kind in KINDS {
         let length = kind.words(set);
         from_octets(run, set, kind, &vec![0; kind.octets(set)], length);

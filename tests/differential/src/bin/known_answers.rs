@@ -14,21 +14,10 @@ use differential::inputs;
 use differential::run::Run;
 use differential::sets::MOST_Q;
 use reference::octets::{numbers_from_octets, numbers_to_octets, pack};
-use reference::set::{bit_length, bound};
+use reference::set::{bit_length, bound, set};
 use reference::Set;
 
 const SEED: u64 = 0x4B41_5453;
-
-const fn set(l: u32, q: u32, n: u32, dx: u32, dr: u32, mlen: u32) -> Set {
-    Set {
-        l,
-        q,
-        n,
-        dx,
-        dr,
-        mlen,
-    }
-}
 
 /// Document 01's set A.
 const A: Set = set(4, 1459, 2, 1, 1, 4);
@@ -594,17 +583,11 @@ fn decryptions(directory: &Path) {
         let constant = numbers_to_octets(set.qlen(), &vec![set.q - 1; set.places()]);
         let mut top = vec![0; a.len() - constant.len()];
         top.extend(constant);
-        let whole = Set {
-            mlen: set.n * set.b(),
-            ..set
-        };
+        let whole = set.whole();
         file.decrypt(whole, &secret_key, &top, DecryptLengths::of(whole));
     }
     // A message coefficient at the last kept place, and at each place past mlen.
-    let whole = Set {
-        mlen: PADDED.n * PADDED.b(),
-        ..PADDED
-    };
+    let whole = PADDED.whole();
     let keys = keys_of(&mut file, whole);
     for place in 6..9 {
         let mut m = vec![0; 9];
@@ -656,27 +639,20 @@ fn decryptions(directory: &Path) {
     file.write(directory);
 }
 
-fn octets_of(kind: Kind, set: Set, words: &[u32]) -> Vec<u8> {
-    match kind {
-        Kind::Small => pack(set.b(), words, set.small_octets()),
-        _ => numbers_to_octets(set.qlen(), words),
-    }
-}
-
 fn words_of(file: &mut Answers, kind: Kind, set: Set) -> Vec<u32> {
-    let limit = if kind == Kind::Small { set.l } else { set.q };
+    let limit = kind.limit(set);
     let any = |_| file.run.prng.below(u64::from(limit)) as u32;
     let mut words: Vec<u32> = (0..kind.words(set)).map(any).collect();
     words[0] = limit - 1;
     words
 }
 
-fn conversions(directory: &Path) {
-    let mut file = Answers::new("conversions");
+fn conversions(directory: &Path, name: &'static str, kinds: &[Kind]) {
+    let mut file = Answers::new(name);
     for set in SMALL {
-        for kind in KINDS {
+        for &kind in kinds {
             let words = words_of(&mut file, kind, set);
-            let octets = octets_of(kind, set, &words);
+            let octets = kind.octets_of(set, &words);
             file.octets_to_words(set, kind, &octets, words.len());
             file.words_to_octets(set, kind, &words, octets.len());
             // One past what is accepted, and numbers whose low octets alone are accepted.
@@ -685,17 +661,20 @@ fn conversions(directory: &Path) {
                 wrong[words.len() - 1] = number;
                 file.words_to_octets(set, kind, &wrong, octets.len());
             }
-            if kind != Kind::Small {
+            if !kind.is_packed() {
                 file.octets_to_words(set, kind, &with_q(set, &octets, true), words.len());
             } else if !(set.n * set.b()).is_multiple_of(8) {
-                let padded = with_top_bit(&octets, octets.len() - 1);
-                file.octets_to_words(set, kind, &padded, words.len());
+                // The last octet of each packed element.
+                for end in (1..=octets.len() / set.small_octets()).map(|k| k * set.small_octets()) {
+                    let padded = with_top_bit(&octets, end - 1);
+                    file.octets_to_words(set, kind, &padded, words.len());
+                }
             }
         }
     }
-    for kind in KINDS {
+    for &kind in kinds {
         let words = words_of(&mut file, kind, A);
-        let octets = octets_of(kind, A, &words);
+        let octets = kind.octets_of(A, &words);
         for set in five_refusals() {
             file.octets_to_words(set, kind, &octets, words.len());
             file.words_to_octets(set, kind, &words, octets.len());
@@ -745,7 +724,7 @@ fn large(directory: &Path, name: &'static str, set: Set) {
 
     for kind in KINDS {
         let words = words_of(&mut file, kind, set);
-        let octets = octets_of(kind, set, &words);
+        let octets = kind.octets_of(set, &words);
         if kind != Kind::Ciphertext {
             file.octets_to_words(set, kind, &octets, words.len());
         }
@@ -769,7 +748,9 @@ fn main() {
     encryptions(directory);
     additions(directory);
     decryptions(directory);
-    conversions(directory);
+    let [others @ .., secret_key] = KINDS;
+    conversions(directory, "conversions", &others);
+    conversions(directory, "secret_key_conversions", &[secret_key]);
     for (name, set) in LARGE {
         large(directory, name, set);
     }

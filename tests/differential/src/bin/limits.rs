@@ -3,19 +3,8 @@
 use differential::compare::{check, lengths, limits};
 use differential::run::{run_group, Run};
 use differential::sets::{bits_of, random_mlen, sets_with, DEGREES, MOST_Q, RANGES};
-use reference::set::{bound, small_bits};
+use reference::set::{bound, set, small_bits};
 use reference::Set;
-
-fn set(l: u32, q: u32, n: u32, dx: u32, dr: u32, mlen: u32) -> Set {
-    Set {
-        l,
-        q,
-        n,
-        dx,
-        dr,
-        mlen,
-    }
-}
 
 /// The three calls on one set; where it is accepted, the headroom is the largest s with s * B < q.
 fn all(run: &mut Run, set: Set) -> u32 {

@@ -9,7 +9,7 @@ use differential::sets::{bits_of, least_q, sets_with, DEGREES, MOST_Q, RANGES};
 use reference::ledger::Ledger;
 use reference::monomials::count;
 use reference::octets::pack;
-use reference::set::{bound, headroom};
+use reference::set::{bound, headroom, set};
 use reference::Set;
 
 pub fn all(run: &mut Run) {
@@ -19,14 +19,7 @@ pub fn all(run: &mut Run) {
                 let Some(least) = least_q(l, n, dx + dr) else {
                     continue;
                 };
-                let set = |q| Set {
-                    l,
-                    q,
-                    n,
-                    dx,
-                    dr,
-                    mlen: n * bits_of(l),
-                };
+                let set = |q| set(l, q, n, dx, dr, n * bits_of(l));
                 let at = least - 1;
                 for s in (1..=6).filter(|s| *s <= (MOST_Q - 1) / at) {
                     // q = s * B has headroom s - 1, the next has s.

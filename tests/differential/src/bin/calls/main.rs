@@ -10,6 +10,7 @@ use differential::run::{run_group, Run};
 use differential::sets::{
     bits_of, dropping_modulus, largest_n, least_q, sets_with, DEGREES, MOST_Q, RANGES,
 };
+use reference::set::set;
 use reference::Set;
 
 /// Every l and degree with n from 2 to 17: q at its limits, above a power of two and anywhere.
@@ -69,14 +70,7 @@ fn tight(l: u32, n: u32, (dx, dr): (u32, u32), run: &mut Run) -> Vec<Set> {
         return Vec::new();
     };
     let dropping = dropping_modulus(least, &mut run.prng);
-    let set = |q| Set {
-        l,
-        q,
-        n,
-        dx,
-        dr,
-        mlen: n * bits_of(l),
-    };
+    let set = |q| set(l, q, n, dx, dr, n * bits_of(l));
     vec![set(least), set(MOST_Q), set(dropping)]
 }
 
@@ -115,25 +109,11 @@ fn large_rings(run: &mut Run) {
         scenario::once(run, partial);
         scenario::top(run, set);
     }
-    let table_5 = Set {
-        l: 4,
-        q: 467_424_413,
-        n: 1201,
-        dx: 1,
-        dr: 1,
-        mlen: 2402,
-    };
+    let table_5 = set(4, 467_424_413, 1201, 1, 1, 2402);
     if !run.skips() {
         scenario::all(run, table_5);
     }
-    let blank = Set {
-        l: 2,
-        q: 100_679_684,
-        n: 4096,
-        dx: 1,
-        dr: 1,
-        mlen: 0,
-    };
+    let blank = set(2, 100_679_684, 4096, 1, 1, 0);
     scenario::once(run, blank);
 }
 

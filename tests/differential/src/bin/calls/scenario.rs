@@ -243,10 +243,7 @@ fn encryptions(run: &mut Run, set: Set, keys: &Keys) -> Vec<Vec<u8>> {
 fn tails(run: &mut Run, set: Set, keys: &Keys) {
     let n = set.places();
     let kept = (set.mlen / set.b()) as usize;
-    let whole = Set {
-        mlen: set.n * set.b(),
-        ..set
-    };
+    let whole = set.whole();
     let mut list = vec![0, n - 1, kept.saturating_sub(1), kept];
     list.push(run.prng.below(n as u64) as usize);
     for place in list.into_iter().filter(|&place| place < n) {
@@ -268,10 +265,7 @@ fn tails(run: &mut Run, set: Set, keys: &Keys) {
 
 /// Ciphertexts of any coefficients, any secret key.
 fn other_ciphertexts(run: &mut Run, set: Set, keys: &Keys) {
-    let whole = Set {
-        mlen: set.n * set.b(),
-        ..set
-    };
+    let whole = set.whole();
     for set in [set, whole] {
         let lengths = DecryptLengths::of(set);
         let ciphertext = inputs::ciphertext(set, &mut run.prng);

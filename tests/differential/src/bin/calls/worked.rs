@@ -4,16 +4,10 @@ use differential::compare::{
     decrypt, encrypt, is_zero, keygen, DecryptLengths, EncryptLengths, KeygenLengths,
 };
 use differential::run::Run;
+use reference::set::set;
 use reference::Set;
 
-const A: Set = Set {
-    l: 4,
-    q: 1459,
-    n: 2,
-    dx: 1,
-    dr: 1,
-    mlen: 4,
-};
+const A: Set = set(4, 1459, 2, 1, 1, 4);
 
 const KEY_RANDOM: [u8; 10] = [0x09, 0x04, 0x05, 0, 0x07, 0, 0x64, 0, 0x01, 0];
 const SECRET_KEY: [u8; 2] = [0x09, 0x04];
