@@ -1,7 +1,7 @@
 -- Why rows of four from a number and three of its shifts are its coefficients: coefficient 4 j + k is x shifted by k b and then by 4 b j bits.
 --
 --   lanes-rows       the rows of a number and its shifts are its coefficients
---   NewTo            the front of a list is new, the rest as it was;  row-step, rows-end: the loop over rows;  groups-step: over groups
+--   NewTo            the front of a list is new, the rest as it was;  row-step, rows-end: the loop over rows;  spread-step: over groups
 --   groups-unpacked  the rows of all groups are the coefficients of the octets
 -- Assumes nothing.
 use Prim.Native.Nat.{ℕ, zero, suc, _+_, _*_, _/_, _%_, _^_, _≤_, _<_}
@@ -81,17 +81,18 @@ row-step words l at b j modulus inside room stored before =
     let four = take 4 (drop at words) in
     let next : at + (j + 1) * 4 ≡ at + j * 4 + 4 = omega arith in
     rw (next, add-one j, ← append-assoc (take at words) (rowsOf b j four) (rowOf b j four), four-read words at inside)
-    (new-step words l _ _ (at + j * 4) 4 (omega arith) refl (rw (stored, modulus) (four-stored l (at + j * 4) _ _ _ _ room)) (rw (four-read words at inside) at before))
+    (new-step words l _ _ (at + j * 4) 4 (omega arith) refl (rw (stored, modulus) (four-stored l (at + j * 4) _ _ _ _ room))
+    (rw (four-read words at inside) at before))
 
 pub rows-end : (words l part : List ℕ) (at n : ℕ) → NewTo n (take at words ++ part) words l → l ≡ take at words ++ (part ++ drop n words)
 rows-end words l part at n new = sym (take-append-drop n l) ∙ rw (new .0, new .1) (append-assoc (take at words) part (drop n words))
 
 -- the rows of a group
-pub groups-step : (b many g : ℕ) (words l : List ℕ) {r : List ℕ} → 1 ≤ many → g * (many * 8) + many * 2 * 4 ≤ length l
+pub spread-step : (b many g : ℕ) (words l : List ℕ) {r : List ℕ} → 1 ≤ many → g * (many * 8) + many * 2 * 4 ≤ length l
     → r ≡ take (g * (many * 8)) l ++ (rowsOf b (many * 2) (take 4 (drop (g * (many * 8)) l)) ++ drop (g * (many * 8) + many * 2 * 4) l)
     → NewTo (g * (many * 8)) (groupsOf b many g words) words l → NewTo ((g + 1) * (many * 8)) (groupsOf b many (g + 1) words) words r
 unfolding groupsOf
-groups-step b many g words l pos room put before =
+spread-step b many g words l pos room put before =
     let four = take 4 (drop (g * (many * 8)) l) in
     let next : (g + 1) * (many * 8) ≡ g * (many * 8) + many * 2 * 4 = omega arith in
     let whole = length-rowsOf b (many * 2) four (length-take-le 4 (drop (g * (many * 8)) l) (omega (arith, length-drop (g * (many * 8)) l))) in

@@ -9,7 +9,7 @@ use borrow.Author.Needs.{needs}
 use Rattle.definitions.proofs.Octets.{place-end}
 use Rattle.packing.proofs.Groups.{many-few, many-narrow}
 use Rattle.unpacking.specs.Lanes.{groupsOf}
-use Rattle.unpacking.proofs.Lanes.{NewTo, groups-step}
+use Rattle.unpacking.proofs.Lanes.{NewTo, spread-step}
 use Rattle.unpacking.proofs.spread_groups.Statement.{statement}
 use Rattle.unpacking.proofs.spread_groups.Tie as tie
 
@@ -48,7 +48,7 @@ loop-again c =
     let put : tie.After-spread-rows Inv-loop μ-loop = search needs in
     let a = begun i .args in
     let l = i .before .loop in
-    (omega arith, omega arith, groups-step (a .b) (a .many) (l .g) (a .words .now) (l .words) (omega arith) (room i) (put .spread-rows .ensures) (l .inv .2))
+    (omega arith, omega arith, spread-step (a .b) (a .many) (l .g) (a .words .now) (l .words) (omega arith) (room i) (put .spread-rows .ensures) (l .inv .2))
 
 returns : tie.Need-returns Inv-loop μ-loop
 returns c =

@@ -35,6 +35,9 @@ narrow c = shift-below (c .before .loop .j * 4) (start c .args .rows * 4) (start
 modulus : (s : tie.Start Inv-loop μ-loop) → 1 * 2 ^ s .args .b % 4294967296 ≡ 2 ^ s .args .b
 modulus s = shl-one (s .args .b) 32 (omega arith)
 
+positive : (s : tie.Start Inv-loop μ-loop) → 0 < 1 * 2 ^ s .args .b % 4294967296
+positive s = rw (modulus s) (pow-pos (s .args .b))
+
 loop-again : tie.Need-loop-again Inv-loop μ-loop
 loop-again c =
     let a = start (search needs) .args in
@@ -53,13 +56,10 @@ returns c =
 pub spread-rows-spec : {M : Type 1} → statement M
 spread-rows-spec =
     tie.close
-    (tie.spec Inv-loop μ-loop (λ c. search needs) (λ c. search needs) (λ c. search needs) (λ c. search needs) (λ c. search needs) (λ c. search needs) (λ c. search needs)
-    (λ c. search needs) (λ c. search needs) (λ c. search needs) (λ c. search needs) (λ c. search needs) (λ c. search needs) loop-holds
-    (λ c. search needs) (λ c. omega (arith, narrow (search needs))) (λ c. search needs) (λ c. search needs)
-    (λ c. omega (arith, narrow (search needs))) (λ c. narrow (search needs)) (λ c. rw (modulus (search needs)) (pow-pos _)) (λ c. search needs) (λ c. search needs)
-    (λ c. omega (arith, narrow (search needs))) (λ c. narrow (search needs)) (λ c. rw (modulus (search needs)) (pow-pos _)) (λ c. search needs) (λ c. search needs)
-    (λ c. simp length-set (omega arith))
-    (λ c. omega (arith, narrow (search needs))) (λ c. narrow (search needs)) (λ c. rw (modulus (search needs)) (pow-pos _)) (λ c. search needs) (λ c. search needs)
-    (λ c. simp length-set (omega arith))
-    (λ c. omega (arith, narrow (search needs))) (λ c. narrow (search needs)) (λ c. rw (modulus (search needs)) (pow-pos _)) (λ c. search needs) (λ c. search needs)
-    (λ c. simp length-set (omega arith)) (λ c. search needs) (λ c. search needs) loop-again (λ c. search needs) returns)
+    (tie.spec Inv-loop μ-loop (λ c. search needs) (λ c. search needs) (λ c. search needs) (λ c. search needs) (λ c. search needs) (λ c. search needs)
+    (λ c. search needs) (λ c. search needs) (λ c. search needs) (λ c. search needs) (λ c. search needs) (λ c. search needs) (λ c. search needs) loop-holds
+    (λ c. search needs) (λ c. omega (arith, narrow (search needs))) (λ c. search needs) (λ c. search needs) (λ c. omega (arith, narrow (search needs))) (λ c. narrow (search needs)) (λ c. positive (search needs)) (λ c. search needs) (λ c. search needs)
+    (λ c. omega (arith, narrow (search needs))) (λ c. narrow (search needs)) (λ c. positive (search needs)) (λ c. search needs) (λ c. search needs) (λ c. simp length-set (omega arith))
+    (λ c. omega (arith, narrow (search needs))) (λ c. narrow (search needs)) (λ c. positive (search needs)) (λ c. search needs) (λ c. search needs) (λ c. simp length-set (omega arith))
+    (λ c. omega (arith, narrow (search needs))) (λ c. narrow (search needs)) (λ c. positive (search needs)) (λ c. search needs) (λ c. search needs) (λ c. simp length-set (omega arith))
+    (λ c. search needs) (λ c. search needs) loop-again (λ c. search needs) returns)
