@@ -5,7 +5,7 @@ use mathlib.Core.Path.{_≡_, refl}
 use mathlib.Core.Logic.{⊎-elim}
 use lib.ListN.{length, length-set}
 use borrow.Author.Needs.{needs}
-use Rattle.draws.proofs.Runs.{Going, going-start, going-group, going-kept, going-dropped, going-exhausted, going-complete}
+use Rattle.draws.proofs.Runs.{Going, going-start, going-kept, going-dropped, going-exhausted, going-complete}
 use Rattle.draws.proofs.draw_below.Statement.{statement}
 use Rattle.draws.proofs.draw_below.Tie as tie
 
@@ -30,29 +30,22 @@ coefficients-holds c =
 loop-holds : tie.Need-loop-holds Inv-loop μ-loop Inv-coefficients μ-coefficients
 loop-holds c = search needs
 
--- the group that was read
-module _ (c : tie.After-number Inv-loop μ-loop Inv-coefficients μ-coefficients) where
-  abbrev turn : tie.At-loop Inv-loop μ-loop Inv-coefficients μ-coefficients
-  turn = search needs
-
-  abbrev sized : tie.After-octets-of-coefficient Inv-loop μ-loop Inv-coefficients μ-coefficients
-  sized = search needs
-
-  abbrev masked : tie.After-group-mask Inv-loop μ-loop Inv-coefficients μ-coefficients
-  masked = search needs
-  group = going-group (turn .loop .inv) (sized .octets-of-coefficient .ensures) (masked .group-mask .ensures) (c .number .ensures)
-
 loop-again : tie.Need-loop-again Inv-loop μ-loop Inv-coefficients μ-coefficients
 loop-again c =
-    let x = group (search needs) in
-    going-dropped (turn (search needs) .loop .inv) (sized (search needs) .octets-of-coefficient .ensures) (omega arith) (omega arith) (omega arith)
+    let turn : tie.At-loop Inv-loop μ-loop Inv-coefficients μ-coefficients = search needs in
+    let sized : tie.After-octets-of-coefficient Inv-loop μ-loop Inv-coefficients μ-coefficients = search needs in
+    let masked : tie.After-group-mask Inv-loop μ-loop Inv-coefficients μ-coefficients = search needs in
+    going-dropped (turn .loop .inv) (sized .octets-of-coefficient .ensures) (masked .group-mask .ensures) (c .before .number .ensures)
+    (omega arith) (omega arith) (c .if1 .left)
 
 coefficients-again : tie.Need-coefficients-again Inv-loop μ-loop Inv-coefficients μ-coefficients
-coefficients-again c = (
-  simp length-set (omega arith),
-  simp length-set (omega arith),
-  going-kept (turn (search needs) .loop .inv) (sized (search needs) .octets-of-coefficient .ensures) (group (search needs)) (c .if1 .taken) (omega arith) (omega arith),
-)
+coefficients-again c =
+    let turn : tie.At-loop Inv-loop μ-loop Inv-coefficients μ-coefficients = search needs in
+    let sized : tie.After-octets-of-coefficient Inv-loop μ-loop Inv-coefficients μ-coefficients = search needs in
+    let masked : tie.After-group-mask Inv-loop μ-loop Inv-coefficients μ-coefficients = search needs in
+    let kept = going-kept (turn .loop .inv) (sized .octets-of-coefficient .ensures) (masked .group-mask .ensures) (c .before .number .ensures)
+    (omega arith) (omega arith) (c .if1 .taken) in
+    (simp length-set (omega arith), simp length-set (omega arith), kept)
 
 returns : tie.Need-returns Inv-loop μ-loop Inv-coefficients μ-coefficients
 returns c =

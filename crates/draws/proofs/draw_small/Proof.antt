@@ -18,9 +18,11 @@ returns c =
     let measured : tie.After-small-length = search needs in
     let width : tie.After-bits = search needs in
     let count : s .args .at + measured .small-length .result - s .args .at ≡ smallLength (setFrom (s .args .p)) = omega arith in
-    rw (width .bits .ensures, s .pre .1, count) at (c .before .before .unpack .ensures)
+    let filled : tie.After-unpack = search needs in
+    rw (width .bits .ensures, s .pre .1, count) at (filled .unpack .ensures)
 
 pub draw-small-spec : {M : Type 1} → statement M
 draw-small-spec =
     tie.close
-    (tie.spec (λ c κs. search needs) (λ c. search needs) (λ c. search needs) (λ c. search needs) (λ c. search needs) (λ c κs. search needs) unpack-requires (λ c. search needs) returns)
+    (tie.spec (λ c κs. search needs) (λ c. search needs) (λ c. search needs) (λ c. search needs) (λ c. search needs)
+    (λ c κs. search needs) unpack-requires (λ c. search needs) returns)

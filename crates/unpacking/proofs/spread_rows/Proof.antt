@@ -58,8 +58,12 @@ spread-rows-spec =
     tie.close
     (tie.spec Inv-loop μ-loop (λ c. search needs) (λ c. search needs) (λ c. search needs) (λ c. search needs) (λ c. search needs) (λ c. search needs)
     (λ c. search needs) (λ c. search needs) (λ c. search needs) (λ c. search needs) (λ c. search needs) (λ c. search needs) (λ c. search needs) loop-holds
-    (λ c. search needs) (λ c. omega (arith, narrow (search needs))) (λ c. search needs) (λ c. search needs) (λ c. omega (arith, narrow (search needs))) (λ c. narrow (search needs)) (λ c. positive (search needs)) (λ c. search needs) (λ c. search needs)
-    (λ c. omega (arith, narrow (search needs))) (λ c. narrow (search needs)) (λ c. positive (search needs)) (λ c. search needs) (λ c. search needs) (λ c. simp length-set (omega arith))
-    (λ c. omega (arith, narrow (search needs))) (λ c. narrow (search needs)) (λ c. positive (search needs)) (λ c. search needs) (λ c. search needs) (λ c. simp length-set (omega arith))
-    (λ c. omega (arith, narrow (search needs))) (λ c. narrow (search needs)) (λ c. positive (search needs)) (λ c. search needs) (λ c. search needs) (λ c. simp length-set (omega arith))
+    (λ c. search needs) (λ c. omega (arith, narrow (search needs))) (λ c. search needs) (λ c. search needs)
+    (λ c. omega (arith, narrow (search needs))) (λ c. narrow (search needs)) (λ c. positive (search needs)) (λ c. search needs) (λ c. search needs)
+    (λ c. omega (arith, narrow (search needs))) (λ c. narrow (search needs)) (λ c. positive (search needs)) (λ c. search needs) (λ c. search needs)
+    (λ c. simp length-set (omega arith))
+    (λ c. omega (arith, narrow (search needs))) (λ c. narrow (search needs)) (λ c. positive (search needs)) (λ c. search needs) (λ c. search needs)
+    (λ c. simp length-set (omega arith))
+    (λ c. omega (arith, narrow (search needs))) (λ c. narrow (search needs)) (λ c. positive (search needs)) (λ c. search needs) (λ c. search needs)
+    (λ c. simp length-set (omega arith))
     (λ c. search needs) (λ c. search needs) loop-again (λ c. search needs) returns)
