@@ -18,7 +18,8 @@ use native.Mathlib.Numerals.{add-one}
 use native.Mathlib.Decide.{decLt}
 use native.Mathlib.Omega.{arith}
 use lib.ListN.{length, getD, take, drop, set, replicate, replicate-append-replicate, length-take, length-drop, length-set, length-append, take-append-drop}
-use lib.Seq.{take-all, take-suc-set, sets, sets-eq, drop-cons, length-take-le, take-append-le, take-append-add, drop-append-le, drop-append-add, drop-drop, take-at, drop-at}
+use lib.Seq.{take-all, take-suc-set, sets, sets-eq, drop-cons, length-take-le, take-append-le, take-append-add, drop-append-le, drop-append-add, drop-drop}
+use lib.Seq.{take-at, drop-at}
 use Rattle.definitions.specs.Sequences.{tabulate}
 use Rattle.definitions.proofs.Sums.{tabulate-cong}
 
@@ -119,31 +120,33 @@ front-part l rest at i n room h =
     rw (drop-append-le i (take at l) rest (omega arith))
     (take-append-le n (drop i (take at l)) rest (omega (arith, length-drop i (take at l))))
 
-module _ (l part : List ℕ) (at count : ℕ) (room : at ≤ length l) (len : length part ≡ count) {r : List ℕ} (e : r ≡ take at l ++ (part ++ drop (at + count) l)) where
-  full : length (take at l) ≡ at
-  full = length-take-le at l room
+module _ (l part : List ℕ) (at count : ℕ) (room : at ≤ length l) (len : length part ≡ count) {r : List ℕ}
+    (e : r ≡ take at l ++ (part ++ drop (at + count) l))
+  where
+    full : length (take at l) ≡ at
+    full = length-take-le at l room
 
-  -- up to the end of the part's first k words
-  pub put-front : (k : ℕ) → k ≤ count → take (at + k) r ≡ take at l ++ take k part
-  put-front k h =
-      rw (e, ← take-append-le k part (drop (at + count) l) (omega arith)) (rw full at (take-append-add (take at l) (part ++ drop (at + count) l) k))
+    -- up to the end of the part's first k words
+    pub put-front : (k : ℕ) → k ≤ count → take (at + k) r ≡ take at l ++ take k part
+    put-front k h =
+        rw (e, ← take-append-le k part (drop (at + count) l) (omega arith)) (rw full at (take-append-add (take at l) (part ++ drop (at + count) l) k))
 
-  pub put-take : take (at + count) r ≡ take at l ++ part
-  put-take = rw (take-all count part (omega arith)) at (put-front count (omega arith))
+    pub put-take : take (at + count) r ≡ take at l ++ part
+    put-take = rw (take-all count part (omega arith)) at (put-front count (omega arith))
 
-  pub put-drop : (k : ℕ) → drop (at + count + k) r ≡ drop (at + count + k) l
-  put-drop k =
-      let front : length (take at l ++ part) ≡ at + count = omega (arith, length-append (take at l) part, full) in
-      rw (e, ← append-assoc (take at l) part (drop (at + count) l))
-      (rw front at (drop-append-add (take at l ++ part) (drop (at + count) l) k) ∙ drop-drop k (at + count) l)
+    pub put-drop : (k : ℕ) → drop (at + count + k) r ≡ drop (at + count + k) l
+    put-drop k =
+        let front : length (take at l ++ part) ≡ at + count = omega (arith, length-append (take at l) part, full) in
+        rw (e, ← append-assoc (take at l) part (drop (at + count) l))
+        (rw front at (drop-append-add (take at l ++ part) (drop (at + count) l) k) ∙ drop-drop k (at + count) l)
 
-  put-here : take count (drop at r) ≡ part
-  put-here = rw (e, drop-at (take at l) (part ++ drop (at + count) l) at full) (take-at part (drop (at + count) l) count len)
+    put-here : take count (drop at r) ≡ part
+    put-here = rw (e, drop-at (take at l) (part ++ drop (at + count) l) at full) (take-at part (drop (at + count) l) count len)
 
-  put-before : (i n : ℕ) → i + n ≤ at → take n (drop i r) ≡ take n (drop i l)
-  put-before i n h =
-      rw e (front-part l (part ++ drop (at + count) l) at i n room h ∙ sym (front-part l (drop at l) at i n room h)
-      ∙ ap (λ (k : List ℕ). take n (drop i k)) (take-append-drop at l))
+    put-before : (i n : ℕ) → i + n ≤ at → take n (drop i r) ≡ take n (drop i l)
+    put-before i n h =
+        rw e (front-part l (part ++ drop (at + count) l) at i n room h ∙ sym (front-part l (drop at l) at i n room h)
+        ∙ ap (λ (k : List ℕ). take n (drop i k)) (take-append-drop at l))
 
 -- parts put at equal distances: what holds of each of them, with one part more
 pub put-step : (P : ℕ → List ℕ → Type 0) (l part : List ℕ) (size count g : ℕ) {r : List ℕ} → count ≤ size → g * size ≤ length l → length part ≡ count

@@ -11,7 +11,8 @@ use Prim.Native.Nat.{ℕ, zero, suc, _+_, _*_, _/_, _%_, _^_, _≤_, _<_, suc-le
 use mathlib.Core.Path.{_≡_, refl, sym, ap, ap₂, _∙_}
 use mathlib.Core.Bool.{true}
 use mathlib.Core.List.{List, [], _∷_, _++_, append-assoc, append-nil}
-use native.Mathlib.Nat.{mul-zero, mod-lt, div-lt-iff-lt-mul, not-suc-le-zero, le-of-suc-le-suc, zero-lt-suc, zero-mul, suc-mul, add-comm, pow-suc, le-trans, mul-le-mul-right, mul-le-mul-left}
+use native.Mathlib.Nat.{mul-zero, mod-lt, div-lt-iff-lt-mul, not-suc-le-zero, le-of-suc-le-suc, zero-lt-suc, zero-mul, suc-mul, add-comm, pow-suc, le-trans}
+use native.Mathlib.Nat.{mul-le-mul-right, mul-le-mul-left}
 use native.Mathlib.Omega.{arith}
 use lib.ListN.{length, getD, take, drop, length-append, take-append-drop, length-drop}
 use borrow.Author.Tests.{ltb-true, lt-ltb}
@@ -169,7 +170,8 @@ empty : (s : List ℕ) → length s ≡ 0 → [] ≡ s
 empty [] e = refl
 empty (x ∷ s) e = let z : ⊥ = omega arith in absurd z
 
-pub encoded-decoded : (qlen count : ℕ) (octets : List ℕ) → AllBelow 256 octets → length octets ≡ count * qlen → encoded qlen (decoded qlen count octets) ≡ octets
+pub encoded-decoded : (qlen count : ℕ) (octets : List ℕ) → AllBelow 256 octets → length octets ≡ count * qlen
+    → encoded qlen (decoded qlen count octets) ≡ octets
 encoded-decoded qlen zero octets h e = unfold encoded decoded joined tabulate in empty octets (e ∙ zero-mul qlen)
 encoded-decoded qlen (suc count) octets h e =
     let full : qlen ≤ length octets = omega (arith, suc-mul count qlen) in

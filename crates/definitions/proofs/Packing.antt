@@ -10,7 +10,8 @@ use Prim.Native.Nat.{ℕ, zero, suc, _+_, _*_, _/_, _%_, _^_, _≤_, _<_}
 use mathlib.Core.Path.{_≡_, sym, ap, _∙_}
 use mathlib.Core.Bool.{true, _||_}
 use mathlib.Core.List.{List}
-use native.Mathlib.Nat.{mul-zero, pow-succ', div-div-eq-div-mul, div-one, mod-lt, div-lt-iff-lt-mul, le-div-iff-mul-le, div-add-mod', zero-div, le-of-suc-le-suc}
+use native.Mathlib.Nat.{mul-zero, pow-succ', div-div-eq-div-mul, div-one, mod-lt, div-lt-iff-lt-mul, le-div-iff-mul-le, div-add-mod', zero-div}
+use native.Mathlib.Nat.{le-of-suc-le-suc}
 use native.Mathlib.Decide.{decLt}
 use native.Mathlib.Omega.{arith}
 use borrow.Author.Tests.{le-ltb, eqb-true, eq-eqb, lt-ltb}

@@ -58,38 +58,38 @@ one-less h = omega arith
 
 module _ {q : ℕ} {random : List ℕ} {start : ℕ} {words : List ℕ} {i at groups : ℕ} (going : Going q random start words i at groups) where
   -- what is read there and masked, with as many ones as q has bits
-  pub going-group : {width mask x : ℕ} → width ≡ qlen q → mask ≡ 2 ^ bitLength q - 1 → x ≡ numberOf (take width (drop at random))
-      → bitAnd x mask ≡ groupAt q random at
-  going-group w m e = rw (m, and-mask, e, w)
+  module _ {width mask x : ℕ} (w : width ≡ qlen q) (m : mask ≡ 2 ^ bitLength q - 1) (e : x ≡ numberOf (take width (drop at random)))
+      (inside : i < length words) (fits : at + width ≤ length random)
+    where
+      group : bitAnd x mask ≡ groupAt q random at
+      group = rw (m, and-mask, e, w)
 
-  pub going-kept : {width x : ℕ} → width ≡ qlen q → x ≡ groupAt q random at → x < q → i < length words → at + width ≤ length random
-      → Going q random start (set words i x) (i + 1) (at + width) (groups + 1)
-  going-kept {width} {x} w e below inside fits =
-      let rest = drawsAt q random (length words - (i + 1)) (at + width) in
-      let filled : take (i + 1) (set words i x) ≡ take i words ++ (x ∷ []) = rw (add-one i) (take-suc-set words i x inside) in
-      let step : drawsAt q random (length words - i) at ≡ kept x rest =
-      rw (one-less inside, e, w) (drawsAt-kept q random at (length words - (i + 1)) (going .least) (rw w at fits) (rw e at below)) in
-      record {
-        least = going .least;
-        most = going .most;
-        within = fits;
-        counted = omega arith;
-        whole = rw (length-set, filled) (rw step at (going .whole) ∙ onward-kept (take i words) groups x rest);
-      }
+      pub going-kept : bitAnd x mask < q → Going q random start (set words i (bitAnd x mask)) (i + 1) (at + width) (groups + 1)
+      going-kept below =
+          let rest = drawsAt q random (length words - (i + 1)) (at + width) in
+          let filled : take (i + 1) (set words i (bitAnd x mask)) ≡ take i words ++ (bitAnd x mask ∷ []) = rw (add-one i) (take-suc-set words i _ inside) in
+          let step : drawsAt q random (length words - i) at ≡ kept (bitAnd x mask) rest =
+          rw (one-less inside, group, w) (drawsAt-kept q random at (length words - (i + 1)) (going .least) (rw w at fits) (rw group at below)) in
+          record {
+            least = going .least;
+            most = going .most;
+            within = fits;
+            counted = omega arith;
+            whole = rw (length-set, filled) (rw step at (going .whole) ∙ onward-kept (take i words) groups (bitAnd x mask) rest);
+          }
 
-  pub going-dropped : {width : ℕ} → width ≡ qlen q → q ≤ groupAt q random at → i < length words → at + width ≤ length random
-      → Going q random start words i (at + width) (groups + 1)
-  going-dropped {width} w above inside fits =
-      let rest = drawsAt q random (length words - i) (at + width) in
-      let step : drawsAt q random (length words - i) at ≡ dropped rest =
-      rw (one-less inside, w) (drawsAt-dropped q random at (length words - (i + 1)) (going .least) (rw w at fits) above) in
-      record {
-        least = going .least;
-        most = going .most;
-        within = fits;
-        counted = omega arith;
-        whole = rw step at (going .whole) ∙ onward-dropped (take i words) groups rest;
-      }
+      pub going-dropped : q ≤ bitAnd x mask → Going q random start words i (at + width) (groups + 1)
+      going-dropped above =
+          let rest = drawsAt q random (length words - i) (at + width) in
+          let step : drawsAt q random (length words - i) at ≡ dropped rest =
+          rw (one-less inside, w) (drawsAt-dropped q random at (length words - (i + 1)) (going .least) (rw w at fits) (rw group at above)) in
+          record {
+            least = going .least;
+            most = going .most;
+            within = fits;
+            counted = omega arith;
+            whole = rw step at (going .whole) ∙ onward-dropped (take i words) groups rest;
+          }
 
   pub going-exhausted : {n : ℕ} → length words ≡ n → i < length words → length random - at < qlen q → refused 9 ≡ drawnAnswer (drawsAt q random n start)
   unfolding drawnAnswer answer firstRefusal

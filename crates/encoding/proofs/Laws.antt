@@ -8,7 +8,8 @@
 use Prim.Native.Nat.{ℕ, zero, suc, _+_, _*_, _/_, _%_, _^_, _≤_, _<_}
 use mathlib.Core.Path.{_≡_, refl, sym, ap, _∙_}
 use mathlib.Core.List.{List, [], _∷_, _++_, append-assoc, append-nil}
-use native.Mathlib.Nat.{zero-add, suc-add, one-mul, mul-assoc, mul-suc, mul-le-mul, pow-succ', pow-le-pow-right, div-one, div-div-eq-div-mul, add-mul-div-left, div-eq-of-lt, mod-add-div, mod-lt, le-of-eq}
+use native.Mathlib.Nat.{zero-add, suc-add, one-mul, mul-assoc, mul-suc, mul-le-mul, pow-succ', pow-le-pow-right, div-one, div-div-eq-div-mul}
+use native.Mathlib.Nat.{add-mul-div-left, div-eq-of-lt, mod-add-div, mod-lt, le-of-eq}
 use native.Mathlib.Omega.{arith}
 use lib.ListN.{length, getD, take, drop, set}
 use lib.Seq.{take-all, take-add, drop-cons, sets}
@@ -134,7 +135,8 @@ module _ (at len x : ℕ) (l : List ℕ) {r : List ℕ} (room : at + len ≤ len
       (simp append-assoc)
 
 -- eight octets, stored as four and four
-pub stored-eight : (at x : ℕ) (l : List ℕ) {r : List ℕ} → at + 8 ≤ length l → r ≡ stored at 4 (x % 4294967296) l → stored (at + 4) 4 (x / 4294967296) r ≡ stored at 8 x l
+pub stored-eight : (at x : ℕ) (l : List ℕ) {r : List ℕ} → at + 8 ≤ length l → r ≡ stored at 4 (x % 4294967296) l
+    → stored (at + 4) 4 (x / 4294967296) r ≡ stored at 8 x l
 stored-eight at x l h e =
     let low : octetsOf 4 (x % 4294967296) ≡ octetsOf 4 x = octetsOf-low 4 x in
     stored-add at 4 x l (omega arith) (rw low at e) 4
@@ -166,7 +168,8 @@ pub encode-wide : (m qlen len : ℕ) (words l : List ℕ) {r : List ℕ} → m <
     → r ≡ stored (m * qlen) len (getD words m 0) l → take (m * qlen) l ≡ encoded qlen (take m words)
     → take ((m + 1) * qlen) r ≡ encoded qlen (take (m + 1) words)
 encode-wide m qlen len words l inside whole room e before =
-    encode-turn m qlen len (getD words m 0) 1 words l room e before (omega arith) (rw (drop-cons words m 0 inside, encoded-one qlen (getD words m 0), one-mul qlen))
+    encode-turn m qlen len (getD words m 0) 1 words l room e before (omega arith)
+    (rw (drop-cons words m 0 inside, encoded-one qlen (getD words m 0), one-mul qlen))
 
 -- two words, as eight octets
 pub encode-eight : (m qlen : ℕ) (words l : List ℕ) {x : ℕ} {r : List ℕ} → m + 2 ≤ length words → qlen ≤ 4 → m * qlen + 8 ≤ length l

@@ -11,7 +11,9 @@
 use Prim.Native.Nat.{ℕ, zero, suc, _+_, _-_, _*_, _/_, _%_, _^_, _≤_, _<_, min}
 use mathlib.Core.Path.{_≡_, refl, sym, ap, ap₂, _∙_}
 use mathlib.Core.List.{List, [], _∷_, _++_, append-nil}
-use native.Mathlib.Nat.{zero-add, add-comm, mul-assoc, zero-mul, suc-mul, zero-div, div-one, div-eq-of-lt, div-add-mod', mod-lt, pow-suc, add-mul-div-left, mul-add-div-right, add-mul-mod-self-right, mul-zero, mul-le-mul-left, mul-le-mul-right, div-lt-iff-lt-mul, le-div-iff-mul-le, le-trans, le-of-lt}
+use native.Mathlib.Nat.{zero-add, add-comm, mul-assoc, zero-mul, suc-mul, zero-div, div-one, div-eq-of-lt, div-add-mod', mod-lt, pow-suc, mul-zero}
+use native.Mathlib.Nat.{add-mul-div-left, mul-add-div-right, add-mul-mod-self-right, mul-le-mul-left, mul-le-mul-right, div-lt-iff-lt-mul, le-div-iff-mul-le}
+use native.Mathlib.Nat.{le-trans, le-of-lt}
 use native.Mathlib.Decide.{decLt}
 use native.Mathlib.Omega.{arith}
 use lib.Arith.{digits-lt}
@@ -188,7 +190,8 @@ module _ {w v places many : ℕ} (group : Group w v places many) (n : ℕ) (numb
             ]
 
         regrouped-parts : regrouped w v n numbers
-            ≡ (regrouped w v (g * places) numbers ++ fieldsOf v count (valueIn w (take len (drop (g * many) numbers)))) ++ replicate (n - (g * places + count)) 0
+            ≡ (regrouped w v (g * places) numbers ++ fieldsOf v count (valueIn w (take len (drop (g * many) numbers))))
+            ++ replicate (n - (g * places + count)) 0
         regrouped-parts =
             let inside : g * places ≤ n = groups-within g n places (omega arith) in
             rw (← regrouped-add w v numbers (g * many) len (g * places) count (group .some-bits) below (group-start group g) last-bits)

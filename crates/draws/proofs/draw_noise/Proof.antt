@@ -6,7 +6,7 @@ use Rattle.draws.proofs.draw_noise.Tie as tie
 
 returns : tie.Need-returns
 unfolding noiseDrawn
-returns c = c .before .before .draw-small .ensures
+returns c = search needs
 
 pub draw-noise-spec : {M : Type 1} → statement M
 draw-noise-spec = tie.close (tie.spec (λ c κs. search needs) (λ c. search needs) returns)

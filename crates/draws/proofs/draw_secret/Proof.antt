@@ -6,7 +6,7 @@ use Rattle.draws.proofs.draw_secret.Tie as tie
 
 returns : tie.Need-returns
 unfolding secretDrawn
-returns c = c .before .before .draw-small .ensures
+returns c = search needs
 
 pub draw-secret-spec : {M : Type 1} → statement M
 draw-secret-spec = tie.close (tie.spec (λ c κs. search needs) (λ c. search needs) returns)

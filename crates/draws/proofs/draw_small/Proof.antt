@@ -14,22 +14,15 @@ unpack-requires c κs = rw (c .before .bits .ensures) (smallBits-within _ .least
 
 returns : tie.Need-returns
 returns c =
-    let borrowed = c .before .before .before .before in
-    let measured = borrowed .before .before in
-    let start = measured .before .before .before in
-    let count : start .args .at + measured .small-length .result - start .args .at ≡ smallLength (setFrom (start .args .p)) = omega arith in
-    rw (borrowed .bits .ensures, start .pre .1, count) at (c .before .before .unpack .ensures)
+    let s : tie.Start = search needs in
+    let measured : tie.After-small-length = search needs in
+    let width : tie.After-bits = search needs in
+    let count : s .args .at + measured .small-length .result - s .args .at ≡ smallLength (setFrom (s .args .p)) = omega arith in
+    let filled : tie.After-unpack = search needs in
+    rw (width .bits .ensures, s .pre .1, count) at (filled .unpack .ensures)
 
 pub draw-small-spec : {M : Type 1} → statement M
 draw-small-spec =
     tie.close
-    (tie.spec
-    (λ c κs. search needs)
-    (λ c. search needs)
-    (λ c. search needs)
-    (λ c. search needs)
-    (λ c. search needs)
-    (λ c κs. search needs)
-    unpack-requires
-    (λ c. search needs)
-    returns)
+    (tie.spec (λ c κs. search needs) (λ c. search needs) (λ c. search needs) (λ c. search needs) (λ c. search needs)
+    (λ c κs. search needs) unpack-requires (λ c. search needs) returns)

@@ -49,7 +49,8 @@ add-first : tie.Need-add-first Inv-loop μ-loop
 unfolding lanesIn
 add-first c =
     let i : tie.In-loop Inv-loop μ-loop = search needs in
-    record { fits = rw (turn i (start i .args .at) (start i .args .at + i .before .loop .j * 4) (omega arith) (omega arith) (i .before .loop .inv .1)) (fits i 0) }
+    let row = start i .args .at + i .before .loop .j * 4 in
+    record { fits = rw (turn i (start i .args .at) row (omega arith) (omega arith) (i .before .loop .inv .1)) (fits i 0) }
 
 add-second-2 : tie.Need-add-second-2 Inv-loop μ-loop
 unfolding lanesIn

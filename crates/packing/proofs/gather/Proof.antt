@@ -29,7 +29,8 @@ narrow c = shift-below (c .before .loop .k) (start c .args .count) (start c .arg
 
 -- the sum with the coefficient of this turn
 turn : (c : tie.In-loop Inv-loop μ-loop)
-    → c .before .loop .x + getD (start c .args .words .now) (start c .args .at + c .before .loop .k) 0 * 2 ^ (c .before .loop .k * start c .args .b) % 4294967296
+    → c .before .loop .x
+    + getD (start c .args .words .now) (start c .args .at + c .before .loop .k) 0 * 2 ^ (c .before .loop .k * start c .args .b) % 4294967296
     ≡ valueIn (start c .args .b) (take (c .before .loop .k + 1) (drop (start c .args .at) (start c .args .words .now)))
 turn c =
     let s = start c in
@@ -41,7 +42,8 @@ add-x-2 c =
     let i : tie.In-loop Inv-loop μ-loop = search needs in
     let s = start i in
     let few : i .before .loop .k + 1 ≤ s .args .count = omega arith in
-    record { fits = rw (turn i) (value-fits (s .args .words .now) (s .args .at) (s .args .b) _ (s .pre .3) (le-trans (mul-le-mul-right (s .args .b) few) (s .pre .1))) }
+    let narrow = le-trans (mul-le-mul-right (s .args .b) few) (s .pre .1) in
+    record { fits = rw (turn i) (value-fits (s .args .words .now) (s .args .at) (s .args .b) _ (s .pre .3) narrow) }
 
 loop-again : tie.Need-loop-again Inv-loop μ-loop
 loop-again c = (omega arith, turn (search needs))

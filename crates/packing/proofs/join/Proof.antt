@@ -5,50 +5,19 @@ use borrow.Author.Needs.{needs}
 use Rattle.packing.proofs.join.Statement.{statement}
 use Rattle.packing.proofs.join.Tie as tie
 
-add-result-2 : tie.Need-add-result-2
-add-result-2 c =
-    let s = c .before .before in
-    record { fits = join-two (s .args .lanes .now) (s .args .at) (s .args .b) (s .pre .1) (s .pre .2) }
-
-add-result-4 : tie.Need-add-result-4
-add-result-4 c =
-    let s = c .before .before .before in
-    record { fits = join-three (s .args .lanes .now) (s .args .at) (s .args .b) (s .pre .1) (s .pre .2) }
-
 add-result-6 : tie.Need-add-result-6
 add-result-6 c =
-    let s = c .before .before .before .before in
+    let s : tie.Start = search needs in
     record { fits = rw (join-four (s .args .lanes .now) (s .args .at) (s .args .b) (s .pre .1) (s .pre .2)) (s .pre .2) }
 
 returns : tie.Need-returns
-returns c =
-    let s = c .before .before .before .before in
-    join-four (s .args .lanes .now) (s .args .at) (s .args .b) (s .pre .1) (s .pre .2)
+returns c = let s : tie.Start = search needs in join-four (s .args .lanes .now) (s .args .at) (s .args .b) (s .pre .1) (s .pre .2)
 
 pub join-spec : {M : Type 1} → statement M
 join-spec =
     tie.close
-    (tie.spec
-    (λ c. search needs)
-    (λ c. search needs)
-    (λ c. search needs)
-    (λ c. search needs)
-    (λ c. search needs)
-    (λ c. search needs)
-    (λ c. search needs)
-    add-result-2
-    (λ c. search needs)
-    (λ c. search needs)
-    (λ c. search needs)
-    (λ c. search needs)
-    (λ c. search needs)
-    (λ c. search needs)
-    add-result-4
-    (λ c. search needs)
-    (λ c. search needs)
-    (λ c. search needs)
-    (λ c. search needs)
-    (λ c. search needs)
-    (λ c. search needs)
-    add-result-6
-    returns)
+    (tie.spec (λ c. search needs) (λ c. search needs) (λ c. search needs) (λ c. search needs) (λ c. search needs) (λ c. search needs) (λ c. search needs)
+    (λ c. let s : tie.Start = search needs in record { fits = join-two (s .args .lanes .now) (s .args .at) (s .args .b) (s .pre .1) (s .pre .2) })
+    (λ c. search needs) (λ c. search needs) (λ c. search needs) (λ c. search needs) (λ c. search needs) (λ c. search needs)
+    (λ c. let s : tie.Start = search needs in record { fits = join-three (s .args .lanes .now) (s .args .at) (s .args .b) (s .pre .1) (s .pre .2) })
+    (λ c. search needs) (λ c. search needs) (λ c. search needs) (λ c. search needs) (λ c. search needs) (λ c. search needs) add-result-6 returns)

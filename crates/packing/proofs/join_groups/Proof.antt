@@ -34,7 +34,8 @@ begun c = search needs
 
 -- the octets of the group have room
 room : (c : tie.In-loop Inv-loop μ-loop)
-    → (begun c .args .start + c .before .loop .g) * (begun c .args .many * begun c .args .b) + begun c .args .many * begun c .args .b ≤ length (c .before .loop .octets)
+    → (begun c .args .start + c .before .loop .g) * (begun c .args .many * begun c .args .b) + begun c .args .many * begun c .args .b
+    ≤ length (c .before .loop .octets)
 room c =
     let s = begun c in
     place-end (s .args .start + c .before .loop .g) (s .args .many * s .args .b) {count = s .args .start + s .args .some} (omega arith)

@@ -7,14 +7,16 @@ use native.Mathlib.Omega.{arith}
 use lib.ListN.{length}
 use borrow.Author.Needs.{needs}
 use Rattle.definitions.specs.Octets.{coefficientsFit}
+use Rattle.packing.proofs.Groups.{four-over-fits, four-over-some}
 use Rattle.packing.proofs.pack_groups.Statement.{statement}
 use Rattle.packing.proofs.pack_groups.Tie as tie
 
--- what is required, at the b that was found
+-- what the loop requires, at the b that was found
 required : (s : tie.Start) (k : ℕ) → s .args .b ≡ k
-    → (1 ≤ k) × (k ≤ 4) × (s .args .groups * (4 / k * k) ≤ length (s .args .octets .now)) × (s .args .groups * (4 / k * 8) ≤ length (s .args .words .now))
+    → (1 ≤ k) × (1 ≤ 4 / k) × (4 / k * k ≤ 4) × (s .args .groups * (4 / k * k) ≤ length (s .args .octets .now))
+    × (s .args .groups * (4 / k * 8) ≤ length (s .args .words .now))
     × (coefficientsFit (2 ^ k) (s .args .words .now) ≡ true)
-required s k e = rw e at (s .pre)
+required s k e = let r = rw e at (s .pre) in (r .0, four-over-some k (r .0) (r .1), four-over-fits k, r .2, r .3, r .4)
 
 returns : tie.Need-returns
 returns c = let s : tie.Start = search needs in let e : s .args .b ≡ 1 = omega arith in rw e (search needs)
@@ -31,7 +33,7 @@ returns-4 c = let s : tie.Start = search needs in let e : s .args .b ≡ 4 = ome
 pub pack-groups-spec : {M : Type 1} → statement M
 pack-groups-spec =
     tie.close
-    (tie.spec (λ c κs. let r = required (search needs) 1 (omega arith) in (search needs, search needs, search needs, r .2, r .3, r .4)) (λ c. search needs) returns
-    (λ c κs. let r = required (search needs) 2 (omega arith) in (search needs, search needs, search needs, r .2, r .3, r .4)) (λ c. search needs) returns-2
-    (λ c κs. let r = required (search needs) 3 (omega arith) in (search needs, search needs, search needs, r .2, r .3, r .4)) (λ c. search needs) returns-3
-    (λ c κs. let r = required (search needs) 4 (omega arith) in (search needs, search needs, search needs, r .2, r .3, r .4)) (λ c. search needs) returns-4)
+    (tie.spec (λ c κs. required (search needs) 1 (omega arith)) (λ c. search needs) returns
+    (λ c κs. required (search needs) 2 (omega arith)) (λ c. search needs) returns-2
+    (λ c κs. required (search needs) 3 (omega arith)) (λ c. search needs) returns-3
+    (λ c κs. required (search needs) 4 (omega arith)) (λ c. search needs) returns-4)

@@ -26,13 +26,16 @@ loop-holds : tie.Need-loop-holds Inv-loop μ-loop
 unfolding packed regrouped tabulate
 loop-holds c = let s : tie.Start Inv-loop μ-loop = search needs in let none = zero-mul (s .args .many * s .args .b) in (omega arith, refl, refl, rw none)
 
-abbrev begun : tie.At-loop Inv-loop μ-loop → tie.Start Inv-loop μ-loop
-begun c = search needs
+abbrev start : tie.After-least Inv-loop μ-loop → tie.Start Inv-loop μ-loop
+start c = search needs
+
+abbrev turn : tie.After-least Inv-loop μ-loop → tie.At-loop Inv-loop μ-loop
+turn c = search needs
 
 -- the groups of a turn end inside
-room : (c : tie.After-least Inv-loop μ-loop) (size : ℕ) {total : ℕ} → begun (c .before .before) .args .groups * size ≤ total
-    → (c .before .before .loop .g + c .least .result) * size ≤ total
-room c size = some-within (c .before .before .loop .g) (c .least .result) (begun (c .before .before) .args .groups) size (omega arith)
+room : (c : tie.After-least Inv-loop μ-loop) (size : ℕ) {total : ℕ} → start c .args .groups * size ≤ total
+    → (turn c .loop .g + c .least .result) * size ≤ total
+room c size = some-within (turn c .loop .g) (c .least .result) (start c .args .groups) size (omega arith)
 
 collect-groups-requires : tie.Need-collect-groups-requires Inv-loop μ-loop
 collect-groups-requires c κs =
@@ -60,7 +63,8 @@ loop-again c =
       omega arith,
       omega arith,
       groups-step (group-of (s .args .b) (s .args .many) (s .pre .0) (s .pre .1)) (s .args .words .now) (at .loop .g) (coefficientsFit-below _ _ (s .pre .5))
-          (at .loop .octets) _ _ (laneNumber (s .args .b) (sums .collect-groups .last .1 .1 .1 .1 .1 .0)) (sums .collect-groups .ensures) (at .loop .inv .3) (put .join-groups .ensures),
+          (at .loop .octets) _ _ (laneNumber (s .args .b) (sums .collect-groups .last .1 .1 .1 .1 .1 .0)) (sums .collect-groups .ensures) (at .loop .inv .3)
+          (put .join-groups .ensures),
     )
 
 returns : tie.Need-returns Inv-loop μ-loop

@@ -4,88 +4,60 @@ use Prim.Native.Nat.{_+_, _-_, _*_, _≤_}
 use mathlib.Core.Path.{_≡_, refl}
 use native.Mathlib.Nat.{zero-mul}
 use native.Mathlib.Omega.{arith}
-use lib.ListN.{length, take, drop}
+use lib.ListN.{length}
+use borrow.Author.Needs.{needs}
 use Rattle.definitions.proofs.Octets.{place-end}
 use Rattle.packing.proofs.Groups.{many-few, many-narrow}
 use Rattle.unpacking.specs.Lanes.{groupsOf}
-use Rattle.unpacking.proofs.Lanes.{groups-step-take, groups-step-drop}
+use Rattle.unpacking.proofs.Lanes.{NewTo, spread-step}
 use Rattle.unpacking.proofs.spread_groups.Statement.{statement}
 use Rattle.unpacking.proofs.spread_groups.Tie as tie
 
 abbrev Inv-loop : tie.InvT-loop
 Inv-loop words₀ b many groups g₀ words g =
-    (g ≤ groups) × (length words ≡ length words₀) × (take (g * (many * 8)) words ≡ groupsOf b many g words₀)
-    × (drop (g * (many * 8)) words ≡ drop (g * (many * 8)) words₀)
+    (g ≤ groups) × (length words ≡ length words₀) × NewTo (g * (many * 8)) (groupsOf b many g words₀) words₀ words
 
 abbrev μ-loop : tie.MeasureT-loop
 μ-loop words₀ b many groups g₀ words g = groups - g
 
 loop-holds : tie.Need-loop-holds Inv-loop μ-loop
 unfolding groupsOf
-loop-holds c = let none = zero-mul (c .before .args .many * 8) in (omega arith, refl, rw none, refl)
+loop-holds c = let s : tie.Start Inv-loop μ-loop = search needs in let none = zero-mul (s .args .many * 8) in (omega arith, refl, (rw none, refl))
 
-few : (c : tie.After-spread-rows-arg Inv-loop μ-loop) → c .before .before .before .before .args .many ≤ 4
-few c = let s = c .before .before .before .before in many-few (s .args .b) (s .args .many) (s .pre .2) (s .pre .0)
+abbrev begun : tie.In-loop Inv-loop μ-loop → tie.Start Inv-loop μ-loop
+begun c = search needs
 
-end : (c : tie.After-spread-rows-arg Inv-loop μ-loop)
-    → c .before .before .loop .g * (c .before .before .before .before .args .many * 8) + c .before .before .before .before .args .many * 2 * 4 ≤ length (c .before .before .loop .words)
-end c =
-    let s = c .before .before .before .before in
-    let room : s .args .groups * (s .args .many * 8) ≤ length (c .before .before .loop .words) = rw (c .before .before .loop .inv .1) (s .pre .3) in
-    omega (arith, place-end (c .before .before .loop .g) (s .args .many * 8) (c .before .loop-test .taken) room)
+few : (s : tie.Start Inv-loop μ-loop) → s .args .many ≤ 4
+few s = many-few (s .args .b) (s .args .many) (s .pre .2) (s .pre .0)
 
-mul-spread-rows : tie.Need-mul-spread-rows Inv-loop μ-loop
-mul-spread-rows c = omega (arith, few c)
-
-mul-spread-rows-2 : tie.Need-mul-spread-rows-2 Inv-loop μ-loop
-mul-spread-rows-2 c = omega (arith, end c)
-
-mul-spread-rows-3 : tie.Need-mul-spread-rows-3 Inv-loop μ-loop
-mul-spread-rows-3 c = omega (arith, few c)
+-- the words of the group have room
+room : (c : tie.In-loop Inv-loop μ-loop)
+    → c .before .loop .g * (begun c .args .many * 8) + begun c .args .many * 2 * 4 ≤ length (c .before .loop .words)
+room c =
+    let all : begun c .args .groups * (begun c .args .many * 8) ≤ length (c .before .loop .words) = rw (c .before .loop .inv .1) (begun c .pre .3) in
+    omega (arith, place-end (c .before .loop .g) (begun c .args .many * 8) (c .loop-test .taken) all)
 
 spread-rows-requires : tie.Need-spread-rows-requires Inv-loop μ-loop
 spread-rows-requires c κs =
-    let s = c .before .before .before .before in
-    (s .pre .0, many-narrow (s .args .b) (s .args .many) (s .pre .2) (s .pre .1), omega arith, omega arith, end c)
-
-add-g : tie.Need-add-g Inv-loop μ-loop
-add-g c = omega arith
-
-loop-less : tie.Need-loop-less Inv-loop μ-loop
-loop-less c = omega arith
+    let s : tie.Start Inv-loop μ-loop = search needs in
+    (s .pre .0, many-narrow (s .args .b) (s .args .many) (s .pre .2) (s .pre .1), omega arith, omega arith, room (search needs))
 
 loop-again : tie.Need-loop-again Inv-loop μ-loop
 loop-again c =
-    let s = c .before .before .before .before .before .before .before in
-    let l = c .before .before .before .before .before .loop in (
-      omega arith,
-      omega arith,
-      groups-step-take (s .args .b) (s .args .many) (l .g) (s .args .words .now) (l .words) (s .pre .1) (end (c .before .before .before)) (l .inv .2) (l .inv .3) (c .before .before .spread-rows .ensures),
-      groups-step-drop (s .args .b) (s .args .many) (l .g) (s .args .words .now) (l .words) (s .pre .1) (end (c .before .before .before)) (l .inv .2) (l .inv .3) (c .before .before .spread-rows .ensures),
-    )
-
-same-length : tie.Need-same-length Inv-loop μ-loop
-same-length c = omega arith
+    let i : tie.In-loop Inv-loop μ-loop = search needs in
+    let put : tie.After-spread-rows Inv-loop μ-loop = search needs in
+    let a = begun i .args in
+    let l = i .before .loop in
+    (omega arith, omega arith, spread-step (a .b) (a .many) (l .g) (a .words .now) (l .words) (omega arith) (room i) (put .spread-rows .ensures) (l .inv .2))
 
 returns : tie.Need-returns Inv-loop μ-loop
 returns c =
-    let l = c .before .loop in
-    let end : c .before .before .before .args .groups ≡ l .g = omega arith in
-    rw end (l .inv .2)
+    let s : tie.Start Inv-loop μ-loop = search needs in
+    let end : s .args .groups ≡ c .before .loop .g = omega arith in
+    rw end (c .before .loop .inv .2 .0)
 
 pub spread-groups-spec : {M : Type 1} → statement M
 spread-groups-spec =
     tie.close
-    (tie.spec
-    Inv-loop
-    μ-loop
-    loop-holds
-    mul-spread-rows
-    mul-spread-rows-2
-    mul-spread-rows-3
-    spread-rows-requires
-    add-g
-    loop-less
-    loop-again
-    same-length
-    returns)
+    (tie.spec Inv-loop μ-loop loop-holds (λ c. omega (arith, few (search needs))) (λ c. omega (arith, room (search needs)))
+    (λ c. omega (arith, few (search needs))) spread-rows-requires (λ c. search needs) (λ c. search needs) loop-again (λ c. search needs) returns)

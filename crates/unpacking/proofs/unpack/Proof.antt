@@ -1,126 +1,81 @@
 -- `unpacking::unpack` is right because whole groups, the last one and zeros are all that there is.
 -- Assumes nothing.
 use Prim.Native.Nat.{_+_, _*_, _/_, _≤_}
-use mathlib.Core.Path.{sym, _∙_}
-use native.Mathlib.Nat.{lt-of-le-of-lt}
+use mathlib.Core.Path.{_≡_, _∙_}
 use native.Mathlib.Omega.{arith}
-use lib.Dec.{lit≤}
 use lib.ListN.{length}
-use Rattle.definitions.specs.Octets.{unpacked}
-use Rattle.packing.proofs.Fields.{numberOf-value, groups-places, groups-numbers, part-end, parts-whole}
-use Rattle.packing.proofs.Groups.{many-few, many-fits, many-words, many-octets, many-bits, many-last}
 use borrow.Author.Needs.{needs}
+use Rattle.definitions.specs.Octets.{unpacked}
+use Rattle.packing.proofs.Fields.{numberOf-value, parts-whole}
+use Rattle.packing.proofs.Groups.{Group, group-of, turned, many-few, many-last, four-over-fits, four-over-some, groups-within, part-end}
 use Rattle.unpacking.proofs.unpack.Statement.{statement}
 use Rattle.unpacking.proofs.unpack.Tie as tie
 
-div-many : tie.Need-div-many
-div-many c = omega arith
+group : (s : tie.Start) → Group 8 (s .args .b) (4 / s .args .b * 8) (4 / s .args .b * s .args .b)
+group s = turned (group-of (s .args .b) (4 / s .args .b) (s .pre .0) (four-over-some (s .args .b) (s .pre .0) (s .pre .1)))
 
-mul-size : tie.Need-mul-size
-mul-size c =
-    let s = c .before .before in
-    omega (arith, many-few (s .args .b) (4 / s .args .b) (many-fits (s .args .b)) (s .pre .0))
+sizes : (s : tie.Start) → (4 / s .args .b ≤ 4) × (4 / s .args .b * s .args .b ≤ 4)
+sizes s = let fits = four-over-fits (s .args .b) in (many-few (s .args .b) (4 / s .args .b) fits (s .pre .0), fits)
 
-mul-len : tie.Need-mul-len
-mul-len c = omega (arith, many-fits (c .before .before .args .b))
+abbrev begun : tie.After-least → tie.Start
+begun c = search needs
 
-div-least : tie.Need-div-least
-div-least c =
-    let s = c .before .before in
-    many-words (s .args .b) (s .pre .0) (s .pre .1)
+-- the groups' words and octets
+places : (c : tie.After-least) → c .least .result * (4 / begun c .args .b * 8) ≤ length (begun c .args .words .now)
+places c = groups-within (c .least .result) (length (begun c .args .words .now)) (4 / begun c .args .b * 8) (omega arith)
 
-div-least-2 : tie.Need-div-least-2
-div-least-2 c =
-    let s = c .before .before in
-    many-octets (s .args .b) (s .pre .0) (s .pre .1)
+numbers : (c : tie.After-least) → c .least .result * (4 / begun c .args .b * begun c .args .b) ≤ length (begun c .args .octets .now)
+numbers c = groups-within (c .least .result) (length (begun c .args .octets .now)) (4 / begun c .args .b * begun c .args .b) (omega arith)
 
-places : (c : tie.After-least) → c .least .result * (4 / c .before .before .before .args .b * 8) ≤ length (c .before .before .before .args .words .now)
-places c =
-    let s = c .before .before .before in
-    let a = s .args in
-    groups-places 8 (a .b) (4 / a .b * 8) (4 / a .b * a .b) (length (a .words .now)) (a .octets .now) (lit≤ tt) (many-words (a .b) (s .pre .0) (s .pre .1)) (many-octets (a .b) (s .pre .0) (s .pre .1)) (sym (many-bits (a .b) (4 / a .b))) (c .least .result) (c .least .ensures)
+abbrev least : tie.After-unpack-groups → tie.After-least
+least c = search needs
 
-numbers : (c : tie.After-least) → c .least .result * (4 / c .before .before .before .args .b * c .before .before .before .args .b) ≤ length (c .before .before .before .args .octets .now)
-numbers c =
-    let s = c .before .before .before in
-    let a = s .args in
-    groups-numbers 8 (a .b) (4 / a .b * 8) (4 / a .b * a .b) (length (a .words .now)) (a .octets .now) (lit≤ tt) (many-words (a .b) (s .pre .0) (s .pre .1)) (many-octets (a .b) (s .pre .0) (s .pre .1)) (sym (many-bits (a .b) (4 / a .b))) (c .least .result) (c .least .ensures)
+abbrev first : tie.After-least2 → tie.After-unpack-groups
+first c = search needs
 
--- the words after the groups
-start : (c : tie.After-unpack-groups)
-    → c .before .before .least .result * (4 / c .before .before .before .before .before .args .b * 8) ≤ length (c .unpack-groups .last .1 .1 .1 .0)
-start c = rw (c .unpack-groups .kept .1 .1 .1 .0) (places (c .before .before))
+-- the words after the groups, and after the last one
+after : (c : tie.After-unpack-groups) → least c .least .result * (4 / begun (least c) .args .b * 8) ≤ length (c .unpack-groups .last .1 .1 .1 .0)
+after c = rw (c .unpack-groups .kept .1 .1 .1 .0) (places (least c))
 
-end : (c : tie.After-number)
-    → c .before .before .before .before .before .before .before .before .least .result * (4 / c .before .before .before .before .before .before .before .before .before .before .before .args .b * 8) + c .before .before .before .least2 .result ≤ length (c .before .before .before .before .before .before .unpack-groups .last .1 .1 .1 .0)
-end c = part-end _ (start (c .before .before .before .before .before .before)) (c .before .before .before .least2 .ensures)
-
-unpack-groups-requires : tie.Need-unpack-groups-requires
-unpack-groups-requires c κs = (c .before .before .before .before .pre .0, c .before .before .before .before .pre .1, numbers (c .before), places (c .before))
-
-mul-at : tie.Need-mul-at
-mul-at c = record { fits = lt-of-le-of-lt (places (c .before .before .before .before)) (omega arith) }
-
-mul-from : tie.Need-mul-from
-mul-from c = record { fits = lt-of-le-of-lt (numbers (c .before .before .before .before)) (c .before .before .before .before .before .before .before .good .0 .0) }
-
-sub-least : tie.Need-sub-least
-sub-least c = start (c .before .before)
-
-sub-least-2 : tie.Need-sub-least-2
-sub-least-2 c = numbers (c .before .before .before .before .before)
+end : (c : tie.After-least2)
+    → least (first c) .least .result * (4 / begun (least (first c)) .args .b * 8) + c .least2 .result ≤ length (first c .unpack-groups .last .1 .1 .1 .0)
+end c = part-end _ (after (first c)) (c .least2 .ensures)
 
 number-requires : tie.Need-number-requires
 number-requires c κs =
-    let a = c .before .before .before .before .before .before .before .before .before .before .args in
-    (omega (arith, many-fits (a .b)), part-end (4 / a .b * a .b) (numbers (c .before .before .before .before .before .before .before)) (c .before .least3 .ensures))
+    let rest : tie.After-least3 = search needs in
+    (omega (arith, sizes (search needs)), part-end _ (numbers (search needs)) (rest .least3 .ensures))
 
 spread-requires : tie.Need-spread-requires
 spread-requires c κs =
-    let s = c .before .before .before .before .before .before .before .before .before .before .before in
-    (s .pre .0, s .pre .1, many-last (s .args .b) (4 / s .args .b) (many-fits (s .args .b)) _ (c .before .before .before .least2 .ensures), end c)
-
-add-clear-words : tie.Need-add-clear-words
-add-clear-words c = record { fits = lt-of-le-of-lt (end (c .before .before .before .before)) (omega arith) }
+    let s : tie.Start = search needs in
+    let count : tie.After-least2 = search needs in
+    (s .pre .0, s .pre .1, many-last (s .args .b) _ (sizes s .1) _ (count .least2 .ensures), end count)
 
 clear-words-requires : tie.Need-clear-words-requires
-clear-words-requires c κs = rw (c .before .before .before .spread .kept .0) (end (c .before .before .before .before))
+clear-words-requires c κs = let put : tie.After-spread = search needs in rw (put .spread .kept .0) (end (search needs))
 
 returns : tie.Need-returns
 unfolding unpacked
 returns c =
-    let s = c .before .before .before .before .before .before .before .before .before .before .before .before .before .before .before .before .before .before in
-    let a = s .args in
-    let first = c .before .before .before .before .before .before .before .before .before .before .before .before .before .unpack-groups in
-    let last = c .before .before .before .before .before .before .spread in
-    parts-whole 8 (a .b) (4 / a .b * 8) (4 / a .b * a .b) (length (a .words .now)) (a .octets .now) (lit≤ tt) (many-words (a .b) (s .pre .0) (s .pre .1)) (many-octets (a .b) (s .pre .0) (s .pre .1)) (sym (many-bits (a .b) (4 / a .b)))
-    (c .before .before .before .before .before .before .before .before .before .before .before .before .before .before .before .least .result) (c .before .before .before .before .before .before .before .before .before .before .before .before .before .before .before .least .ensures)
-    (λ i h. c .before .before .before .before .before .before .before .before .before .before .before .before .before .before .before .before .before .shared-slice-known .given i .fits) (c .before .before .before .before .before .before .before .before .before .before .least2 .result) (c .before .before .before .before .before .before .before .before .before .least3 .result)
-    (rw (first .kept .1 .1 .1 .0) at (c .before .before .before .before .before .before .before .before .before .before .least2 .ensures)) (c .before .before .before .before .before .before .before .before .before .least3 .ensures)
-    (first .last .1 .1 .1 .0) (last .last .0) (c .before .before .clear-words .last .0)
-    (first .ensures) (c .before .before .before .before .before .before .before .number .ensures ∙ numberOf-value _) (last .ensures)
-    (last .kept .0 ∙ first .kept .1 .1 .1 .0) (c .before .before .clear-words .ensures)
+    let octets : tie.After-shared-slice-known = search needs in
+    let groups : tie.After-unpack-groups = search needs in
+    let count : tie.After-least2 = search needs in
+    let rest : tie.After-least3 = search needs in
+    let number : tie.After-number = search needs in
+    let last : tie.After-spread = search needs in
+    let zeros : tie.After-clear-words = search needs in
+    let kept = groups .unpack-groups .kept .1 .1 .1 .0 in
+    parts-whole (group (octets .before)) _ (octets .before .args .octets .now) (least groups .least .result) (least groups .least .ensures)
+    (λ i h. octets .shared-slice-known .given i .fits) (count .least2 .result) (rest .least3 .result) (rw kept at (count .least2 .ensures))
+    (rest .least3 .ensures) _ _ (groups .unpack-groups .ensures) (number .number .ensures ∙ numberOf-value _) (last .spread .ensures)
+    (last .spread .kept .0 ∙ kept) (zeros .clear-words .ensures)
 
 pub unpack-spec : {M : Type 1} → statement M
 unpack-spec =
     tie.close
-    (tie.spec
-    div-many
-    mul-size
-    mul-len
-    div-least
-    div-least-2
-    (λ c κs. search needs)
-    unpack-groups-requires
-    mul-at
-    mul-from
-    sub-least
-    (λ c κs. search needs)
-    sub-least-2
-    (λ c κs. search needs)
-    number-requires
-    spread-requires
-    add-clear-words
-    clear-words-requires
-    (λ c. search needs)
-    returns)
+    (tie.spec (λ c. search needs) (λ c. omega (arith, sizes (search needs))) (λ c. omega (arith, sizes (search needs))) (λ c. group (search needs) .some-places)
+    (λ c. group (search needs) .some-numbers) (λ c κs. search needs) (λ c κs. (search needs, search needs, numbers (search needs), places (search needs)))
+    (λ c. omega (arith, places (search needs))) (λ c. omega (arith, numbers (search needs))) (λ c. after (search needs)) (λ c κs. search needs)
+    (λ c. numbers (search needs)) (λ c κs. search needs) number-requires spread-requires (λ c. omega (arith, end (search needs))) clear-words-requires
+    (λ c. search needs) returns)
