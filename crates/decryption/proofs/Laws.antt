@@ -5,24 +5,23 @@
 -- Assumes nothing.
 use Prim.Native.Nat.{ℕ, zero, suc, _+_, _*_, _%_, _<_}
 use mathlib.Core.Path.{_≡_, refl, sym, ap, _∙_}
-use mathlib.Core.Bool.{true, not, _&&_, and-false}
+use mathlib.Core.Bool.{true, false, not}
 use mathlib.Core.List.{List, [], _∷_}
 use mathlib.Core.Logic.{⊎-elim}
 use native.Mathlib.Nat.{pos-of-ne-zero}
 use native.Mathlib.Omega.{arith}
-use borrow.Author.Tests.{eq-eqb, ne-eqb}
-use lib.Dec.{eqb}
 use lib.ListN.{length, replicate}
-use Rattle.definitions.specs.Refusals.{refuse, untouched, refused, accepted, firstRefusal}
-use Rattle.definitions.specs.Parameters.{Parameters, degree, setTests, monomialCount, secretLength, elementsLength, ciphertextLength, messageLength, workLength}
+use Rattle.definitions.specs.Refusals.{refuse, untouched, firstRefusal}
+use Rattle.definitions.specs.Parameters.{Parameters, degree, ciphertextLength}
 use Rattle.definitions.specs.Ring.{modulo}
-use Rattle.definitions.specs.Calls.{DecryptExit, decryptedValue, decryptedElement, decryptedFrom, decryptAnswer, decryptLeaves, decryptExit}
+use Rattle.definitions.specs.Calls.{decryptExact, DecryptExit, decryptedValue, decryptedElement, decryptedFrom, decryptAnswer, decryptLeaves, decryptExit}
 use Rattle.definitions.specs.Demand3.{AcceptedSet}
 use Rattle.definitions.proofs.Refusals.{Numbered, firstRefusal-append, firstRefusal-append-refused}
 use Rattle.definitions.proofs.Parameters.{Accepted, accepted-set, key-degree-most, mask-degree-most}
+use Rattle.definitions.proofs.Calls.{decryptExact-told}
 use Rattle.definitions.proofs.Decryption.{tailClear-cong, messageOf-cong}
 use Rattle.ring.specs.Work.{part}
-use Rattle.definitions.proofs.Exits.{exit-set, exit-length, exit-refused, exit-accepted}
+use Rattle.definitions.proofs.Exits.{exit-length, exit-refused, exit-accepted}
 use Rattle.secrets.specs.Secrets.{ValueInputs, Valued, judgeTests}
 use Rattle.decryption.specs.Decrypted.{tailTests, MessageOf, Decrypted}
 
@@ -55,81 +54,31 @@ module _ (p : Parameters) (secret ciphertext : List ℕ) {refusal : ℕ} {work :
           kept = m .kept;
         }
 
-module _ (p : Parameters) (secret ciphertext old work : List ℕ) where
-  pub decrypt-set : {k : ℕ} → k ≡ firstRefusal (setTests p) → (k ≡ 0 → ⊥)
-      → decryptLeaves (untouched k) old work ≡ decryptExit p secret ciphertext old work
+module _ (p : Parameters) (set : AcceptedSet p) (secret ciphertext old work : List ℕ) where
+  pub decrypt-length : decryptExact p (length secret) (length ciphertext) (length old) (length work) ≡ false
+      → decryptLeaves (untouched 6) old work ≡ decryptExit p secret ciphertext old work
   unfolding decryptExit decryptAnswer
-  decrypt-set e pos = exit-set (λ x. decryptLeaves x old work) p _ _ _ e pos
+  decrypt-length e = exit-length (λ x. decryptLeaves x old work) p _ _ _ set e
 
-  module _ (set : AcceptedSet p) {len : ℕ} where
-    pub decrypt-secret-length : len ≡ secretLength p → (length secret ≡ len → ⊥)
-        → decryptLeaves (untouched 6) old work ≡ decryptExit p secret ciphertext old work
-    unfolding decryptExit decryptAnswer
-    decrypt-secret-length e h =
-        exit-length (λ x. decryptLeaves x old work) p _ _ _ set (rw (ne-eqb (length secret) (secretLength p) (rw e at h)))
-
-    pub decrypt-ciphertext-length : len ≡ ciphertextLength p → (length ciphertext ≡ len → ⊥)
-        → decryptLeaves (untouched 6) old work ≡ decryptExit p secret ciphertext old work
-    unfolding decryptExit decryptAnswer
-    decrypt-ciphertext-length e h =
-        exit-length (λ x. decryptLeaves x old work) p _ _ _ set
-        (rw (ne-eqb (length ciphertext) (ciphertextLength p) (rw e at h), and-false (eqb (length secret) (secretLength p))))
-
-    pub decrypt-message-length : len ≡ messageLength p → (length old ≡ len → ⊥)
-        → decryptLeaves (untouched 6) old work ≡ decryptExit p secret ciphertext old work
-    unfolding decryptExit decryptAnswer
-    decrypt-message-length e h =
-        exit-length (λ x. decryptLeaves x old work) p _ _ _ set
-        (rw (
-          ne-eqb (length old) (messageLength p) (rw e at h),
-          and-false (eqb (length ciphertext) (ciphertextLength p)),
-          and-false (eqb (length secret) (secretLength p)),
-        ))
-
-    pub decrypt-work-length : len ≡ workLength p → (length work ≡ len → ⊥)
-        → decryptLeaves (untouched 6) old work ≡ decryptExit p secret ciphertext old work
-    unfolding decryptExit decryptAnswer
-    decrypt-work-length e h =
-        exit-length (λ x. decryptLeaves x old work) p _ _ _ set
-        (rw (
-          ne-eqb (length work) (workLength p) (rw e at h),
-          and-false (eqb (length old) (messageLength p)),
-          and-false (eqb (length ciphertext) (ciphertextLength p)),
-          and-false (eqb (length secret) (secretLength p)),
-        ))
-
-  pub decrypt-exact : AcceptedSet p → length secret ≡ secretLength p → length ciphertext ≡ ciphertextLength p → length work ≡ workLength p
-      → ValueInputs p (degree p) secret ciphertext work
-  unfolding ciphertextLength
-  decrypt-exact set s k w =
-      let a : Accepted p = accepted-set p set in
-      record {
-        set = set;
-        degree-least = ⊎-elim (λ e. omega arith) (λ e. omega arith) (a .key-degree);
-        degree-most = omega (arith, key-degree-most p a, mask-degree-most p a);
-        secret-length = s;
-        octets-length = k;
-        work-length = w;
-      }
-
-  module _ (exact : ValueInputs p (degree p) secret ciphertext work) (message-length : length old ≡ messageLength p) where
-    lengths : (eqb (length secret) (secretLength p)
-        && (eqb (length ciphertext) (ciphertextLength p)
-        && (eqb (length old) (messageLength p) && eqb (length work) (workLength p)))) ≡ true
+  module _ (exact : decryptExact p (length secret) (length ciphertext) (length old) (length work) ≡ true) where
+    pub decrypt-inputs : ValueInputs p (degree p) secret ciphertext work
     unfolding ciphertextLength
-    lengths =
-        rw (
-          eq-eqb (length secret) (secretLength p) (exact .secret-length),
-          eq-eqb (length ciphertext) (elementsLength p (monomialCount (degree p))) (exact .octets-length),
-          eq-eqb (length old) (messageLength p) message-length,
-          eq-eqb (length work) (workLength p) (exact .work-length),
-        )
+    decrypt-inputs =
+        let a : Accepted p = accepted-set p set in
+        let lengths = decryptExact-told p exact in
+        record {
+          set = set;
+          degree-least = ⊎-elim (λ e. omega arith) (λ e. omega arith) (a .key-degree);
+          degree-most = omega (arith, key-degree-most p a, mask-degree-most p a);
+          secret-length = lengths .0;
+          octets-length = lengths .1;
+          work-length = lengths .3;
+        }
 
     -- past the length test: the words are cleared, whatever the tests said
     pub decrypt-decrypted : (refusal : ℕ) {message words : List ℕ} → Decrypted p secret ciphertext refusal old message → words ≡ replicate (length work) 0
         → _≡_ {A = DecryptExit} (record { refusal = refusal; message = message; work = words }) (decryptExit p secret ciphertext old work)
     unfolding decryptExit decryptAnswer
-    decrypt-decrypted zero t e =
-        rw (t .written refl, e) (exit-accepted (λ x. decryptLeaves x old work) p _ _ _ (exact .set) lengths (sym (t .number)))
+    decrypt-decrypted zero t e = rw (t .written refl, e) (exit-accepted (λ x. decryptLeaves x old work) p _ _ _ set exact (sym (t .number)))
     decrypt-decrypted (suc k) t e =
-        rw (t .kept (λ z. omega arith), e) (exit-refused (λ x. decryptLeaves x old work) p _ _ _ (exact .set) lengths k (sym (t .number)))
+        rw (t .kept (λ z. omega arith), e) (exit-refused (λ x. decryptLeaves x old work) p _ _ _ set exact k (sym (t .number)))

@@ -1,14 +1,14 @@
 // Decryption (01, "Draws from lent random octets": opening): w is the ciphertext's value at the secret, and w modulo l the message.
-// It refuses an unfit set (1 to 5), a length that is not the exact one (6), a secret with an unused bit set (7), a coefficient of the
-// ciphertext that is not below q (8) and a number past the message that is not 0 (10); a refusal leaves the message as it was. The work
-// words are zero after every ending past the length test. The contract cites the definitions' decryptExit.
+// It refuses a length that is not the exact one (6), a secret with an unused bit set (7), a coefficient of the ciphertext that is not below
+// q (8) and a number past the message that is not 0 (10); a refusal leaves the message as it was. The set is accepted. The work words are
+// zero after every ending past the length test. The contract is the definitions' Decrypts.
 ghost use mathlib.Core.Path.{_≡_};
 ghost use Prim.Native.Nat.{_+_, _*_, _^_, _%_, _≤_, _<_};
 ghost use lib.ListN.{length};
 ghost use Rattle.definitions.specs.Sequences.{tabulate};
 ghost use Rattle.definitions.specs.Parameters.{smallBits, messageLength, workLength};
 ghost use Rattle.definitions.specs.Ring.{modulo};
-ghost use Rattle.definitions.specs.Calls.{DecryptExit, decryptExit};
+ghost use Rattle.definitions.specs.Contracts.{Decrypts};
 ghost use Rattle.definitions.specs.Demand3.{AcceptedSet};
 ghost use Rattle.parameters.specs.Answers.{setFrom};
 ghost use Rattle.ring.specs.Work.{part, written};
@@ -74,22 +74,10 @@ pub fn decrypt(
     message: &mut [u8],
     work: &mut [u32],
 ) -> u32
-    ensures { λ r. ⌜ _≡_ {A = DecryptExit} (record { refusal = r; message = now (message .exit); work = now (work .exit) }) (decryptExit (setFrom p) (now (secret .entry)) (now (ciphertext .entry)) (now (message .entry)) (now (work .entry))) ⌝ }
+    requires { ⌜ AcceptedSet (setFrom p) ⌝ }
+    ensures { λ r. ⌜ Decrypts (setFrom p) secret ciphertext message work r ⌝ }
 {
-    let refused = parameters::refusal(p);
-    if refused != 0 {
-        return refused;
-    }
-    if secret.len() != lengths::secret_length(p) {
-        return refusals::LENGTH;
-    }
-    if ciphertext.len() != lengths::ciphertext_length(p) {
-        return refusals::LENGTH;
-    }
-    if message.len() != lengths::message_length(p) {
-        return refusals::LENGTH;
-    }
-    if work.len() != lengths::work_length(p) {
+    if !lengths::decrypt_exact(p, secret.len(), ciphertext.len(), message.len(), work.len()) {
         return refusals::LENGTH;
     }
     let number = decrypted(p, secret, ciphertext, message, work);

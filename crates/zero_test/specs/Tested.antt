@@ -13,5 +13,5 @@ use Rattle.secrets.specs.Secrets.{judgeTests}
 
 pub record Tested (p : Parameters) (secret public : List ℕ) (refusal old zero : ℕ) : Type 0 where
   pub number : refusal ≡ firstRefusal (judgeTests p (p .dx) secret public)
-  pub holds : refusal ≡ 0 → zero ≡ cond (isZeroAt p (polynomialFrom p (p .dx) public) (secretX p secret) (secretY p secret)) 1 0
+  pub holds : refusal ≡ 0 → zero ≡ cond (isZeroAt p (polynomialFrom p public) (secretX p secret) (secretY p secret)) 1 0
   pub kept : (refusal ≡ 0 → ⊥) → zero ≡ old

@@ -1,9 +1,9 @@
 // The zero test (01, "Draws from lent random octets": zero test): whether the key's value at a secret is 0.
-// It refuses an unfit set (1 to 5), a length that is not the exact one (6), a secret with an unused bit set (7) and a coefficient of the key
-// that is not below q (8); a refusal leaves the answer as it was. The work words are zero after every ending past the length test. The
-// contract cites the definitions' isZeroExit.
-ghost use mathlib.Core.Path.{_≡_};
-ghost use Rattle.definitions.specs.Calls.{IsZeroExit, isZeroExit};
+// It refuses a length that is not the exact one (6), a secret with an unused bit set (7) and a coefficient of the key that is not below q
+// (8); a refusal leaves the answer as it was. The set is accepted. The work words are zero after every ending past the length test. The
+// contract is the definitions' Tests.
+ghost use Rattle.definitions.specs.Contracts.{Tests};
+ghost use Rattle.definitions.specs.Demand3.{AcceptedSet};
 ghost use Rattle.parameters.specs.Answers.{setFrom};
 ghost use Rattle.secrets.specs.Secrets.{ValueInputs};
 ghost use Rattle.zero_test.specs.Tested.{Tested};
@@ -27,19 +27,10 @@ fn tested(p: Parameters, secret: &[u8], public: &[u8], work: &mut [u32], zero: &
 }
 
 pub fn is_zero(p: Parameters, secret: &[u8], public: &[u8], work: &mut [u32], zero: &mut u32) -> u32
-    ensures { λ r. ⌜ _≡_ {A = IsZeroExit} (record { refusal = r; zero = now (zero .exit); work = now (work .exit) }) (isZeroExit (setFrom p) (now (secret .entry)) (now (public .entry)) (now (zero .entry)) (now (work .entry))) ⌝ }
+    requires { ⌜ AcceptedSet (setFrom p) ⌝ }
+    ensures { λ r. ⌜ Tests (setFrom p) secret public work zero r ⌝ }
 {
-    let refused = parameters::refusal(p);
-    if refused != 0 {
-        return refused;
-    }
-    if secret.len() != lengths::secret_length(p) {
-        return refusals::LENGTH;
-    }
-    if public.len() != lengths::public_length(p) {
-        return refusals::LENGTH;
-    }
-    if work.len() != lengths::work_length(p) {
+    if !lengths::keys_exact(p, secret.len(), public.len(), work.len()) {
         return refusals::LENGTH;
     }
     let number = tested(p, secret, public, work, zero);
