@@ -1,7 +1,4 @@
--- What one list written over the words leaves at each place, and what several leave: the steps before and after the three products.
---
---   Wrote            the words with f's first n values written over them from a place on; all others as they were
---
+-- What several lists written over the words leave at each place: the steps before and after the three products.
 -- Assumes nothing.
 use Prim.Native.Nat.{ℕ, _+_, _-_, _%_, _≤_, _<_}
 use native.Mathlib.Nat.{add-assoc, mod-lt, mod-eq-of-lt}
@@ -11,25 +8,9 @@ use mathlib.Core.List.{List}
 use lib.ListN.{length, getD}
 use Rattle.definitions.specs.Sequences.{tabulate}
 use Rattle.definitions.specs.Ring.{InRing}
-use Rattle.definitions.proofs.Sums.{length-tabulate}
 use Rattle.ring.specs.Work.{part, written, elementAdded, elementTaken}
-use Rattle.ring.proofs.Work.{getD-written-before, getD-written-after, length-written-tabulate, part-written}
+use Rattle.ring.proofs.Work.{Wrote, wrote}
 use Rattle.karatsuba.specs.Products.{BoundsSums, HalvesAdded, Joined}
-
--- ---- one list written
-pub record Wrote (at n : ℕ) (f : ℕ → ℕ) (old new : List ℕ) : Type 0 where
-  pub as-long : length new ≡ length old
-  pub inside : (k : ℕ) → k < n → part new at k ≡ f k
-  pub before : (k : ℕ) → k < at → getD new k 0 ≡ getD old k 0
-  pub after : (k : ℕ) → at + n ≤ k → getD new k 0 ≡ getD old k 0
-
-pub wrote : {at n : ℕ} {f : ℕ → ℕ} {old new : List ℕ} → at + n ≤ length old → new ≡ written at (tabulate n f) old → Wrote at n f old new
-wrote {at} {n} {f} {old} {new} fit e = record {
-  as-long = ap length e ∙ length-written-tabulate at n f old fit;
-  inside = λ k l. ap (λ (x : List ℕ). part x at k) e ∙ part-written at n f old (omega arith) l;
-  before = λ k l. ap (λ (x : List ℕ). getD x k 0) e ∙ getD-written-before at (tabulate n f) old (omega arith) l;
-  after = λ k l. ap (λ (x : List ℕ). getD x k 0) e ∙ getD-written-after at (tabulate n f) old (omega arith) (omega (arith, length-tabulate n f));
-}
 
 -- ---- coefficients stay below their bounds
 

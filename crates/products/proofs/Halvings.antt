@@ -55,7 +55,10 @@ pub leaves-fit : (n : ℕ) {levels leaves : ℕ} → Leaves levels leaves → n 
 leaves-fit n {levels} {leaves} h l g =
     record {
       enough = leaf-enough n leaves (h .some);
-      whole = ap (λ (x : ℕ). (n + (leaves - 1)) / leaves * x) (h .power);
-      short = leaf-least n leaves 80 (h .some) l;
-      most = leaves-most n h g;
+      halvable =
+          record {
+            whole = ap (λ (x : ℕ). (n + (leaves - 1)) / leaves * x) (h .power);
+            short = leaf-least n leaves 80 (h .some) l;
+            most = leaves-most n h g;
+          };
     }

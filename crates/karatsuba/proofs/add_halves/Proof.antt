@@ -4,7 +4,8 @@
 use borrow.Author.Needs.{needs}
 use native.Mathlib.Omega.{arith}
 use mathlib.Core.Logic.{inr}
-use Rattle.karatsuba.proofs.Steps.{wrote, kept-ring, copied-ring, wrote-sum, halves-added}
+use Rattle.ring.proofs.Work.{wrote}
+use Rattle.karatsuba.proofs.Steps.{kept-ring, copied-ring, wrote-sum, halves-added}
 use Rattle.karatsuba.proofs.add_halves.Statement.{statement}
 use Rattle.karatsuba.proofs.add_halves.Tie as tie
 

@@ -4,7 +4,8 @@ use borrow.Author.Needs.{needs}
 use native.Mathlib.Omega.{arith}
 use native.Mathlib.Nat.{mod-lt}
 use mathlib.Core.Logic.{inl, inr}
-use Rattle.karatsuba.proofs.Steps.{wrote, lower-ring, upper-ring, kept-ring, inside-ring, joined}
+use Rattle.ring.proofs.Work.{wrote}
+use Rattle.karatsuba.proofs.Steps.{lower-ring, upper-ring, kept-ring, inside-ring, joined}
 use Rattle.karatsuba.proofs.join.Statement.{statement}
 use Rattle.karatsuba.proofs.join.Tie as tie
 

@@ -1,6 +1,7 @@
 -- `rows::all_cut_rows` meets its contract: after i rows the halves hold the sum of the first i rows; rows past the last hold nothing.
 -- Assumes nothing.
 use native.Mathlib.Omega.{arith}
+use borrow.Author.Needs.{needs}
 use Prim.Native.Nat.{ℕ, _+_, _-_, _<_}
 use mathlib.Core.Path.{_≡_, ap, _∙_}
 use lib.ListN.{length, length-replicate}
@@ -30,12 +31,6 @@ add-cut-rows-requires c κs =
     let l = c .before .before .before .loop in
     ((start .pre .0, omega arith, omega arith, omega arith), ((λ k. omega (arith, summed-halves (l .inv .5 .sums k) (omega arith))), (λ k. omega (arith, summed-halves (l .inv .5 .sums k) (omega arith)))))
 
-add-i : tie.Need-add-i Inv-loop μ-loop
-add-i c = omega arith
-
-loop-less : tie.Need-loop-less Inv-loop μ-loop
-loop-less c = omega arith
-
 loop-again : tie.Need-loop-again Inv-loop μ-loop
 loop-again c =
     let start = c .before .before .before .before .before .before .before .before .before .before .before .before .before in
@@ -43,26 +38,11 @@ loop-again c =
     let l = c .before .before .before .before .before .before .before .before .loop in
     (omega arith, l .inv .1, l .inv .2, omega (arith, call .kept), omega (arith, call .kept), cut-rows-more (l .inv .5) (start .pre .0 .first-small) (start .pre .0 .second-small) (call .ensures .0) (call .ensures .1))
 
-same-length : tie.Need-same-length Inv-loop μ-loop
-same-length c = omega arith
-
-same-length-2 : tie.Need-same-length-2 Inv-loop μ-loop
-same-length-2 c = omega arith
-
 returns : tie.Need-returns Inv-loop μ-loop
 returns c = cut-rows-all (c .before .loop .inv .5) (omega arith) (omega arith)
 
 pub all-cut-rows-spec : {M : Type 1} → statement M
 all-cut-rows-spec =
     tie.close
-    (tie.spec
-    Inv-loop
-    μ-loop
-    loop-holds
-    add-cut-rows-requires
-    add-i
-    loop-less
-    loop-again
-    same-length
-    same-length-2
-    returns)
+    (tie.spec Inv-loop μ-loop loop-holds add-cut-rows-requires (λ c. search needs) (λ c. search needs) loop-again (λ c. search needs)
+    (λ c. search needs) returns)

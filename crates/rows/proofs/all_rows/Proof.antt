@@ -1,6 +1,7 @@
 -- `rows::all_rows` meets its contract: after i rows each place holds the sum of the first i rows; rows past the last hold nothing.
 -- Assumes nothing.
 use native.Mathlib.Omega.{arith}
+use borrow.Author.Needs.{needs}
 use Prim.Native.Nat.{ℕ, _+_, _-_, _<_}
 use mathlib.Core.Path.{_≡_, ap, _∙_}
 use mathlib.Core.Logic.{⊎-elim}
@@ -37,12 +38,6 @@ add-last-rows-requires c κs =
     let l = c .before .before .before .loop in
     ((start .pre .0 .0, omega arith, omega arith, omega (arith, start .pre .0 .0 .few)), (λ k. rows-fit (l .inv .3) k (start .pre .1 k)))
 
-add-i : tie.Need-add-i Inv-loop μ-loop
-add-i c = omega arith
-
-loop-less : tie.Need-loop-less Inv-loop μ-loop
-loop-less c = omega arith
-
 loop-again : tie.Need-loop-again Inv-loop μ-loop
 loop-again c =
     let l = c .before .before .loop in
@@ -51,24 +46,11 @@ loop-again c =
     (λ w. (omega arith, l .inv .1, omega (arith, w .2 .kept, ap length (w .5)), rw (w .5) (rows-more (l .inv .3) (w .2 .ensures))))
     (c .if1 .came)
 
-same-length : tie.Need-same-length Inv-loop μ-loop
-same-length c = omega arith
-
 returns : tie.Need-returns Inv-loop μ-loop
 returns c = rows-all (c .before .loop .inv .3) (omega arith)
 
 pub all-rows-spec : {M : Type 1} → statement M
 all-rows-spec =
     tie.close
-    (tie.spec
-    Inv-loop
-    μ-loop
-    loop-holds
-    add-if1
-    add-rows-requires
-    add-last-rows-requires
-    add-i
-    loop-less
-    loop-again
-    same-length
-    returns)
+    (tie.spec Inv-loop μ-loop loop-holds add-if1 add-rows-requires add-last-rows-requires (λ c. search needs) (λ c. search needs) loop-again
+    (λ c. search needs) returns)

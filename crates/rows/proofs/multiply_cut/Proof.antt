@@ -13,19 +13,20 @@ use Rattle.rows.proofs.multiply_cut.Tie as tie
 pad-requires : tie.Need-pad-requires
 pad-requires c κs =
     let pre = c .before .before .before .pre in
-    (pre .0 .0, pre .0 .2, refl)
+    (pre .0 .0 .few, pre .0 .0 .second, refl)
 
 all-cut-rows-requires : tie.Need-all-cut-rows-requires
 all-cut-rows-requires c κs =
     let start = c .before .before .before .before .before .before .before .before .before in
+    let leaf = start .pre .0 .0 in
     let pad = c .before .before .before .before .before .pad in
-    (row-operands (start .args .m) _ (pad .last .0) (pad .ensures) (start .pre .0 .0) (start .pre .0 .1) (omega (arith, pad .kept)) (le-of-lt (start .pre .0 .5)) (le-of-lt (start .pre .0 .5)) (start .pre .1 .0) (start .pre .1 .1), refl, refl)
+    (row-operands (start .args .m) _ (pad .last .0) (pad .ensures) (leaf .few) (leaf .first) (omega (arith, pad .kept)) (le-of-lt (start .pre .0 .1 .most)) (le-of-lt (start .pre .0 .1 .most)) (start .pre .1 .0) (start .pre .1 .1), refl, refl)
 
 reduce-cut-requires : tie.Need-reduce-cut-requires
 reduce-cut-requires c κs =
     let start = c .before .before .before .before .before .before .before .before .before .before .before .before .before .before .before in
     let rows = c .before .before .before .before .before .all-cut-rows in
-    ((omega arith, omega (arith, rows .kept), omega (arith, rows .kept), start .pre .0 .4, start .pre .0 .5, start .pre .0 .6), ((λ k l. rows .ensures k .low-small), (λ k l. rows .ensures k .high-small)))
+    ((omega (arith, start .pre .0 .0), omega (arith, start .pre .0 .0, rows .kept), omega (arith, start .pre .0 .0, rows .kept), start .pre .0 .1), ((λ k l. rows .ensures k .low-small), (λ k l. rows .ensures k .high-small)))
 
 returns : tie.Need-returns
 returns c =
@@ -33,7 +34,7 @@ returns c =
     let a = start .args in
     let rows = c .before .before .before .before .before .before .before .before .all-cut-rows in
     let pad = c .before .before .before .before .before .before .before .before .before .before .before .before .before .before .pad in
-    reduced-lent (a .at) (a .m + a .m) (a .q) (a .words .now) (start .pre .0 .3) (λ k. rows .ensures k .whole ∙ linear-row (a .m) _ (pad .last .0) (pad .ensures) (part (a .words .now) (a .a)) k) (c .before .before .reduce-cut .ensures)
+    reduced-lent (a .at) (a .m + a .m) (a .modulus .q) (a .words .now) (start .pre .0 .0 .room) (λ k. rows .ensures k .whole ∙ linear-row (a .m) _ (pad .last .0) (pad .ensures) (part (a .words .now) (a .a)) k) (c .before .before .reduce-cut .ensures)
 
 pub multiply-cut-spec : {M : Type 1} → statement M
 multiply-cut-spec =

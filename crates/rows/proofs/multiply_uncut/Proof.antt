@@ -11,13 +11,13 @@ use Rattle.rows.proofs.multiply_uncut.Tie as tie
 sums-requires : tie.Need-sums-requires
 sums-requires c κs =
     let pre = c .before .before .before .pre in
-    ((pre .0 .0, pre .0 .1, pre .0 .2, refl, pre .0 .8, pre .0 .6, omega arith), pre .1)
+    ((pre .0 .0 .few, pre .0 .0 .first, pre .0 .0 .second, refl, pre .0 .3, pre .0 .2 .most, omega arith), pre .1)
 
 returns : tie.Need-returns
 returns c =
     let start = c .before .before .before .before .before .before .before .before .before .before in
     let a = start .args in
-    reduced-lent (a .at) (a .m + a .m) (a .q) (a .words .now) (start .pre .0 .3) (c .before .before .before .before .before .before .sums .ensures) (c .before .before .reduce .ensures)
+    reduced-lent (a .at) (a .m + a .m) (a .modulus .q) (a .words .now) (start .pre .0 .0 .room) (c .before .before .before .before .before .before .sums .ensures) (c .before .before .reduce .ensures)
 
 pub multiply-uncut-spec : {M : Type 1} → statement M
 multiply-uncut-spec =
