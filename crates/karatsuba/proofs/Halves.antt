@@ -19,7 +19,8 @@ use Rattle.karatsuba.proofs.Steps.{upper-ring, kept-ring}
 use Rattle.karatsuba.proofs.Identity.{Three, put-together}
 
 -- ---- where the three products of a level stand: that of the sums, of the lower and of the upper halves
-module _ {m h a b at free : ℕ} {words : List ℕ} (half : m ≡ h + h) (places : Placing m a b at free words) {new : List ℕ} (long : length new ≡ length words) where
+module _ {m h a b at free : ℕ} {words : List ℕ} (half : m ≡ h + h) (places : Placing m a b at free words) {new : List ℕ}
+    (long : length new ≡ length words) where
   pub placing-sums : Placing h at (at + h) free (free + m) new
   placing-sums = record { first = omega arith; second = omega arith; product = omega arith; room = omega arith }
 
@@ -30,10 +31,13 @@ module _ {m h a b at free : ℕ} {words : List ℕ} (half : m ≡ h + h) (places
   placing-upper = record { first = omega arith; second = omega arith; product = omega arith; room = omega arith }
 
 -- ---- the sums of the halves
-pub summed-ring : {q top r h a b at : ℕ} {words summed : List ℕ} → 0 < q → BoundsSums q top r → HalvesAdded q h a b at words summed → InRing top (h + h) (part words b)
+pub summed-ring : {q top r h a b at : ℕ} {words summed : List ℕ} → 0 < q → BoundsSums q top r → HalvesAdded q h a b at words summed
+    → InRing top (h + h) (part words b)
     → InRing q h (part summed at) × InRing r h (part summed (at + h))
-summed-ring {h = h} {b = b} {words = words} pos sums added ring =
-    (λ k l. rw (added .first k l) (mod-lt _ pos), λ k l. rw (added .second k l) (sums .bounds _ _ (ring k (omega arith)) (upper-ring b h words (omega arith) ring k l)))
+summed-ring {h = h} {b = b} {words = words} pos sums added ring = (
+  λ k l. rw (added .first k l) (mod-lt _ pos),
+  λ k l. rw (added .second k l) (sums .bounds _ _ (ring k (omega arith)) (upper-ring b h words (omega arith) ring k l)),
+)
 
 -- ---- the product of the sums
 module _ {q m h a b at free : ℕ} {words summed crossed : List ℕ} (half : m ≡ h + h) (places : Placing m a b at free words)
@@ -41,8 +45,10 @@ module _ {q m h a b at free : ℕ} {words summed crossed : List ℕ} (half : m �
   crossed-kept : (k : ℕ) → k < at → getD crossed k 0 ≡ getD words k 0
   crossed-kept k l = cross .kept k (omega arith) ∙ added .kept k l
 
-  crossed-same : (k : ℕ) → k < m → part crossed free k ≡ linear h (λ i. (part words a i + upper h (part words a) i) % q) (λ i. (part words b i + upper h (part words b) i) % q) k % q
-  crossed-same k l = cross .same k (omega arith) ∙ ap (λ (x : ℕ). x % q) (linear-cong h (λ i s. added .first i s ∙ sums a i) (λ i s. added .second i s ∙ sums b i) k)
+  crossed-same : (k : ℕ) → k < m → part crossed free k ≡ linear h (λ i. (part words a i + upper h (part words a) i) % q)
+      (λ i. (part words b i + upper h (part words b) i) % q) k % q
+  crossed-same k l = cross .same k (omega arith)
+      ∙ ap (λ (x : ℕ). x % q) (linear-cong h (λ i s. added .first i s ∙ sums a i) (λ i s. added .second i s ∙ sums b i) k)
     where
       sums : (c i : ℕ) → (part words c i + part words (c + h) i) % q ≡ (part words c i + upper h (part words c) i) % q
       sums c i = ap (λ (j : ℕ). (part words c i + getD words j 0) % q) (add-assoc c h i)
@@ -54,14 +60,17 @@ module _ {q m h a b at free : ℕ} {words summed crossed : List ℕ} (half : m �
   -- what the upper halves are read from
   pub lowered-ring : {top : ℕ} {lower : List ℕ} → Multiplied q h a b at (free + m) crossed lower → InRing q m (part words a) × InRing top m (part words b)
       → InRing q h (part lower (a + h)) × InRing top h (part lower (b + h))
-  lowered-ring {lower = lower} low ring =
-      (upper-ring a h lower (omega arith) (kept-ring a words lower (places .first) kept (ring .0)), upper-ring b h lower (omega arith) (kept-ring b words lower (places .second) kept (ring .1)))
+  lowered-ring {lower = lower} low ring = (
+    upper-ring a h lower (omega arith) (kept-ring a words lower (places .first) kept (ring .0)),
+    upper-ring b h lower (omega arith) (kept-ring b words lower (places .second) kept (ring .1)),
+  )
     where
       kept : (k : ℕ) → k < at → getD lower k 0 ≡ getD words k 0
       kept k l = low .kept k l ∙ crossed-kept k l
 
   -- ---- the products of the lower and of the upper halves
-  module _ {lower outer : List ℕ} (low : Multiplied q h a b at (free + m) crossed lower) (high : Multiplied q h (a + h) (b + h) (at + m) (free + m) lower outer) where
+  module _ {lower outer : List ℕ} (low : Multiplied q h a b at (free + m) crossed lower)
+      (high : Multiplied q h (a + h) (b + h) (at + m) (free + m) lower outer) where
     pub three : Three q m h at free (part words a) (part words b) outer
     three = record {
       low = λ k l. high .kept (at + k) (omega arith) ∙ low .same k (omega arith)

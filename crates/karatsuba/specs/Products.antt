@@ -51,5 +51,6 @@ pub record HalvesAdded (q h a b at : ℕ) (words words′ : List ℕ) : Type 0 w
 
 pub record Joined (q m h at free : ℕ) (words words′ : List ℕ) : Type 0 where
   pub low : (k : ℕ) → k < at + h → getD words′ k 0 ≡ getD words k 0
-  pub middle : (k : ℕ) → k < m → part words′ (at + h) k ≡ (part words (at + h) k + ((part words free k + (q - part words at k)) % q + (q - part words (at + m) k)) % q) % q
+  pub middle : (k : ℕ) → k < m → part words′ (at + h) k ≡
+      (part words (at + h) k + ((part words free k + (q - part words at k)) % q + (q - part words (at + m) k)) % q) % q
   pub high : (k : ℕ) → at + h + m ≤ k → k < free → getD words′ k 0 ≡ getD words k 0

@@ -1,7 +1,7 @@
 -- What a product in R_q asks of the work words and leaves in them, and how a long one is halved.
 --
---   Within           the three elements of a product stand in the work words, the first below q and the second below its bound
---   taken            the words with the product a × b + c where c stood
+--   ProductFits           the three elements of a product stand in the work words, the first below q and the second below its bound
+--   withProduct      the words with the product a × b + c where c stood
 --   Fit              a product that can be halved has room for n coefficients; those past n are 0
 -- Assumes nothing.
 use Prim.Native.Nat.{ℕ, _+_, _≤_, _<_}
@@ -15,7 +15,7 @@ use Rattle.reduction.specs.Moduli.{Reciprocal}
 use Rattle.karatsuba.specs.declared.Halving.{Halving}
 use Rattle.karatsuba.specs.Products.{Halvable}
 
-pub record Within (p : Product) (modulus : Modulus) (work : List ℕ) : Type 0 where
+pub record ProductFits (p : Product) (modulus : Modulus) (work : List ℕ) : Type 0 where
   pub first : p .a + p .n ≤ length work
   pub second : p .b + p .n ≤ length work
   pub third : p .c + p .n ≤ length work
@@ -25,8 +25,8 @@ pub record Within (p : Product) (modulus : Modulus) (work : List ℕ) : Type 0 w
   pub first-ring : InRing (modulus .q) (p .n) (part work (p .a))
   pub second-ring : InRing (p .top) (p .n) (part work (p .b))
 
-abbrev pub taken : Product → ℕ → List ℕ → List ℕ
-taken p q work = productAdded (p .n) q (p .a) (p .b) (p .c) work
+abbrev pub withProduct : Product → ℕ → List ℕ → List ℕ
+withProduct p q work = productAdded (p .n) q (p .a) (p .b) (p .c) work
 
 pub record Fit (n : ℕ) (h : Halving) : Type 0 where
   pub enough : n ≤ h .m

@@ -8,7 +8,7 @@ ghost use Rattle.definitions.specs.Sequences.{tabulate};
 ghost use Rattle.definitions.specs.Ring.{InRing, elementOf};
 ghost use Rattle.ring.specs.Work.{part, written, productAdded};
 ghost use Rattle.reduction.specs.Moduli.{Reciprocal};
-ghost use Rattle.products.specs.Products.{Within, taken, Fit};
+ghost use Rattle.products.specs.Products.{ProductFits, withProduct, Fit};
 use karatsuba::Halving;
 use reduction::Modulus;
 
@@ -83,8 +83,8 @@ fn fold_sums(work: &mut [u32], c: usize, n: usize, modulus: Modulus, low: &[u64]
 
 // The product of p, row by row: short enough that the sums fit a word.
 fn short(work: &mut [u32], p: Product, modulus: Modulus)
-    requires { ⌜ Within p modulus (now work) × (p .n ≤ 80) × (modulus .q * p .top ≤ 230584300867682304) ⌝ }
-    ensures { λ _. ⌜ now (work .exit) ≡ taken p (modulus .q) (now (work .entry)) ⌝ }
+    requires { ⌜ ProductFits p modulus (now work) × (p .n ≤ 80) × (modulus .q * p .top ≤ 230584300867682304) ⌝ }
+    ensures { λ _. ⌜ now (work .exit) ≡ withProduct p (modulus .q) (now (work .entry)) ⌝ }
 {
     let mut low = [0u64; 168];
     rows::sums(work, p.a, p.b, p.n, modulus.q, p.top, &mut low);
@@ -94,8 +94,8 @@ fn short(work: &mut [u32], p: Product, modulus: Modulus)
 // The product of p in other words: a from 0 on and b from m on, each filled up with 0, their product from 2 m on, and behind it the words
 // that Karatsuba's product needs.
 fn multiply_in(work: &mut [u32], p: Product, modulus: Modulus, h: Halving, words: &mut [u32])
-    requires { ⌜ Within p modulus (now work) × Fit (p .n) h × (6 * h .m ≤ length (now words)) × InRing 1 (2 * h .m) (elementOf (now words)) ⌝ }
-    ensures { λ _. ⌜ now (work .exit) ≡ taken p (modulus .q) (now (work .entry)) ⌝ }
+    requires { ⌜ ProductFits p modulus (now work) × Fit (p .n) h × (6 * h .m ≤ length (now words)) × InRing 1 (2 * h .m) (elementOf (now words)) ⌝ }
+    ensures { λ _. ⌜ now (work .exit) ≡ withProduct p (modulus .q) (now (work .entry)) ⌝ }
 {
     let m = h.m;
     let at = m + m;
@@ -108,8 +108,8 @@ fn multiply_in(work: &mut [u32], p: Product, modulus: Modulus, h: Halving, words
 
 // The same in an array of the least of three sizes: what it is cleared by is then little beside the product.
 fn multiply_long(work: &mut [u32], p: Product, modulus: Modulus)
-    requires { ⌜ Within p modulus (now work) × (p .n ≤ 4096) ⌝ }
-    ensures { λ _. ⌜ now (work .exit) ≡ taken p (modulus .q) (now (work .entry)) ⌝ }
+    requires { ⌜ ProductFits p modulus (now work) × (p .n ≤ 4096) ⌝ }
+    ensures { λ _. ⌜ now (work .exit) ≡ withProduct p (modulus .q) (now (work .entry)) ⌝ }
 {
     let h = split(p.n);
     let m = h.m;

@@ -41,7 +41,8 @@ pub fn remainder(s: u64, m: Modulus) -> u32
     requires { ⌜ Reciprocal m ⌝ }
     ensures { λ r. ⌜ r ≡ s % m .q ⌝ }
 {
-    let r = s - high_half(s, m.reciprocal) * (m.q as u64);
+    let q = m.q;
+    let r = s - high_half(s, m.reciprocal) * (q as u64);
     let t = r as u32;
-    if t < m.q { t } else { t - m.q }
+    if t < q { t } else { t - q }
 }

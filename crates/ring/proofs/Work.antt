@@ -1,6 +1,6 @@
 -- What stands where after a list was written over the work words: the list inside, the old words before and after it.
 --
---   Writing          how far a loop that writes one word a turn has come
+--   WritingWords     how far a loop that writes one word a turn has come
 --   Wrote            what a list written over the words leaves at each place
 -- Assumes nothing.
 use Prim.Native.Nat.{ℕ, suc, _+_, _-_, _≤_, _<_, zero-le}
@@ -53,7 +53,8 @@ pub length-written-tabulate : (at k : ℕ) (f : ℕ → ℕ) (old : List ℕ) �
 length-written-tabulate at k f old h = length-written at (tabulate k f) old (subst (λ (m : ℕ). at + m ≤ length old) (sym (length-tabulate k f)) h)
 
 -- a part that was not written
-pub part-apart : (at from j n : ℕ) (f : ℕ → ℕ) (old : List ℕ) {k : ℕ} → j ≤ n → at + n ≤ length old → Apart at from n → k < n → part (written at (tabulate j f) old) from k ≡ part old from k
+pub part-apart : (at from j n : ℕ) (f : ℕ → ℕ) (old : List ℕ) {k : ℕ} → j ≤ n → at + n ≤ length old → Apart at from n → k < n
+    → part (written at (tabulate j f) old) from k ≡ part old from k
 part-apart at from j n f old {k} g h apart l =
     let e = length-tabulate j f in
     ⊎-elim
@@ -62,17 +63,18 @@ part-apart at from j n f old {k} g h apart l =
     apart
 
 -- ---- a loop that writes one word a turn: after k of n turns `new` is `old` with f's first k values written
-pub record Writing (at n : ℕ) (f : ℕ → ℕ) (old : List ℕ) (k : ℕ) (new : List ℕ) : Type 0 where
+pub record WritingWords (at n : ℕ) (f : ℕ → ℕ) (old : List ℕ) (k : ℕ) (new : List ℕ) : Type 0 where
   pub turns : k ≤ n
   pub room : at + n ≤ length old
   pub as-long : length new ≡ length old
   pub same : new ≡ written at (tabulate k f) old
 
-pub writing-none : {at n : ℕ} {f : ℕ → ℕ} {old : List ℕ} → at + n ≤ length old → Writing at n f old 0 old
+pub writing-none : {at n : ℕ} {f : ℕ → ℕ} {old : List ℕ} → at + n ≤ length old → WritingWords at n f old 0 old
 unfolding written tabulate
 writing-none {at} {old = old} h = record { turns = zero-le; room = h; as-long = refl; same = rw (add-zero at) (sym (take-append-drop at old)) }
 
-written-more : (at k : ℕ) (f : ℕ → ℕ) (old : List ℕ) {j : ℕ} → j ≡ at + k → j < length old → set (written at (tabulate k f) old) j (f k) ≡ written at (tabulate (k + 1) f) old
+written-more : (at k : ℕ) (f : ℕ → ℕ) (old : List ℕ) {j : ℕ} → j ≡ at + k → j < length old
+    → set (written at (tabulate k f) old) j (f k) ≡ written at (tabulate (k + 1) f) old
 unfolding written
 written-more at k f old {j} e l =
     let head : List ℕ = take at old ++ tabulate k f in
@@ -82,8 +84,8 @@ written-more at k f old {j} e l =
     (set-at head (getD old j 0) (drop (suc j) old) (f k) j place
     ∙ simp append-assoc (ap (λ (m : ℕ). take at old ++ (tabulate k f ++ f k ∷ drop m old)) next))
 
-module _ {at n : ℕ} {f : ℕ → ℕ} {old : List ℕ} {k : ℕ} {new : List ℕ} (w : Writing at n f old k new) where
-  pub writing-more : {j v : ℕ} → j ≡ at + k → k < n → v ≡ f k → Writing at n f old (k + 1) (set new j v)
+module _ {at n : ℕ} {f : ℕ → ℕ} {old : List ℕ} {k : ℕ} {new : List ℕ} (w : WritingWords at n f old k new) where
+  pub writing-more : {j v : ℕ} → j ≡ at + k → k < n → v ≡ f k → WritingWords at n f old (k + 1) (set new j v)
   writing-more {j} {v} e l h =
       record {
         turns = omega arith;
@@ -99,14 +101,14 @@ module _ {at n : ℕ} {f : ℕ → ℕ} {old : List ℕ} {k : ℕ} {new : List �
       ∙ getD-written-after at (tabulate k f) old (omega (arith, w .room)) (omega (arith, length-tabulate k f))
 
   -- and so is every word of a part apart from that which is written
-  pub writing-apart : (from : ℕ) → Apart at from n → k < n → part new from k ≡ part old from k
-  writing-apart from apart l = ap (λ (x : List ℕ). part x from k) (w .same) ∙ part-apart at from k n f old (w .turns) (w .room) apart l
+  pub writing-apart : (from : ℕ) → Apart at from n → {j : ℕ} → j < n → part new from j ≡ part old from j
+  writing-apart from apart {j} l = ap (λ (x : List ℕ). part x from j) (w .same) ∙ part-apart at from k n f old (w .turns) (w .room) apart l
 
   pub writing-own-ring : {q : ℕ} → InRing q n (part old at) → k < n → part new at k < q
   writing-own-ring ring l = rw writing-own (ring k l)
 
-  pub writing-apart-ring : {q : ℕ} (from : ℕ) → Apart at from n → InRing q n (part old from) → k < n → part new from k < q
-  writing-apart-ring from apart ring l = rw (writing-apart from apart l) (ring k l)
+  pub writing-apart-ring : {q : ℕ} (from : ℕ) → Apart at from n → InRing q n (part old from) → {j : ℕ} → j < n → part new from j < q
+  writing-apart-ring from apart ring {j} l = rw (writing-apart from apart l) (ring j l)
 
   pub writing-all : n ≤ k → new ≡ written at (tabulate n f) old
   writing-all l =
@@ -114,13 +116,14 @@ module _ {at n : ℕ} {f : ℕ → ℕ} {old : List ℕ} {k : ℕ} {new : List �
       w .same ∙ ap (λ (m : ℕ). written at (tabulate m f) old) e
 
 -- a turn that writes g of its place and of the word that stands there
-pub writing-one : (g : ℕ → ℕ → ℕ) {at n k : ℕ} {old new : List ℕ} {v : ℕ} → Writing at n (λ j. g j (part old at j)) old k new → k < n → v ≡ g k (part new at k)
-    → Writing at n (λ j. g j (part old at j)) old (k + 1) (set new (at + k) v)
+pub writing-one : (g : ℕ → ℕ → ℕ) {at n k : ℕ} {old new : List ℕ} {v : ℕ} → WritingWords at n (λ j. g j (part old at j)) old k new → k < n
+    → v ≡ g k (part new at k) → WritingWords at n (λ j. g j (part old at j)) old (k + 1) (set new (at + k) v)
 writing-one g {k = k} w l e = writing-more w refl l (e ∙ ap (g k) (writing-own w))
 
 -- a turn that writes g of that word and of the word at the same place of another part
-pub writing-both : (g : ℕ → ℕ → ℕ) {at n k : ℕ} (from : ℕ) {old new : List ℕ} {v : ℕ} → Apart at from n → Writing at n (λ j. g (part old at j) (part old from j)) old k new → k < n
-    → v ≡ g (part new at k) (part new from k) → Writing at n (λ j. g (part old at j) (part old from j)) old (k + 1) (set new (at + k) v)
+pub writing-both : (g : ℕ → ℕ → ℕ) {at n k : ℕ} (from : ℕ) {old new : List ℕ} {v : ℕ} → Apart at from n
+    → WritingWords at n (λ j. g (part old at j) (part old from j)) old k new → k < n
+    → v ≡ g (part new at k) (part new from k) → WritingWords at n (λ j. g (part old at j) (part old from j)) old (k + 1) (set new (at + k) v)
 writing-both g from apart w l e = writing-more w refl l (e ∙ ap₂ g (writing-own w) (writing-apart w from apart l))
 
 -- ---- the element at an offset
@@ -137,14 +140,16 @@ written-part at n f old h =
     (take-at (tabulate n f) _ n (length-tabulate n f))
 
 -- what is written over what was written
-pub written-written : (at : ℕ) (new mid old : List ℕ) → length new ≡ length mid → at + length mid ≤ length old → written at new (written at mid old) ≡ written at new old
+pub written-written : (at : ℕ) (new mid old : List ℕ) → length new ≡ length mid → at + length mid ≤ length old
+    → written at new (written at mid old) ≡ written at new old
 unfolding written
 written-written at new mid old e h =
     let front : length (take at old) ≡ at = length-take-le at old (omega arith) in
     let head : List ℕ = take at old ++ mid in
     let place : length head ≡ at + length new = length-append (take at old) mid ∙ omega arith in
     let rest : List ℕ = drop (at + length mid) old in
-    let tail : drop (at + length new) (take at old ++ (mid ++ rest)) ≡ rest = rw (← append-assoc (take at old) mid rest) (drop-at head rest (at + length new) place) in
+    let tail : drop (at + length new) (take at old ++ (mid ++ rest)) ≡ rest = rw (← append-assoc (take at old) mid rest)
+    (drop-at head rest (at + length new) place) in
     rw (take-at (take at old) (mid ++ rest) at front, tail, e)
 
 -- ---- what a list written over the words leaves at each place

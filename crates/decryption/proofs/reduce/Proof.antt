@@ -8,7 +8,7 @@ use mathlib.Core.Path.{_≡_, sym, subst}
 use native.Mathlib.Omega.{arith}
 use borrow.Author.Needs.{needs}
 use Rattle.ring.specs.Work.{part}
-use Rattle.ring.proofs.Work.{Writing, writing-none, writing-one, writing-all}
+use Rattle.ring.proofs.Work.{WritingWords, writing-none, writing-one, writing-all}
 use Rattle.decryption.proofs.reduce.Statement.{statement}
 use Rattle.decryption.proofs.reduce.Tie as tie
 
@@ -17,7 +17,7 @@ masked : (l x : ℕ) → l ≡ 2 ^ smallBits l → bitAnd x (l - 1) ≡ x % l
 masked l x e = subst (λ (m : ℕ). bitAnd x (m - 1) ≡ x % m) (sym e) (and-mask x (smallBits l))
 
 abbrev Inv-loop : tie.InvT-loop
-Inv-loop work₀ at n l mask k₀ work k = Writing at n (λ j. part work₀ at j % l) work₀ k work
+Inv-loop work₀ at n l mask k₀ work k = WritingWords at n (λ j. part work₀ at j % l) work₀ k work
 
 abbrev μ-loop : tie.MeasureT-loop
 μ-loop work₀ at n l mask k₀ work k = n - k

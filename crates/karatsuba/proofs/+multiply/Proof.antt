@@ -137,7 +137,12 @@ module _ (t : ℕ) where
       let p = start (below sums) .pre .1 in (
         omega (arith, start (below sums) .pre .0, level .less),
         (
-          (level .halvable, placing-upper (level .half) (p .0 .1) (low .multiply3 .kept .0 ∙ cross .multiply2 .kept .0 ∙ sums .add-halves .kept .0), p .0 .2, p .0 .3),
+          (
+            level .halvable,
+            placing-upper (level .half) (p .0 .1) (low .multiply3 .kept .0 ∙ cross .multiply2 .kept .0 ∙ sums .add-halves .kept .0),
+            p .0 .2,
+            p .0 .3,
+          ),
           lowered-ring (level .half) (p .0 .1) (sums .add-halves .ensures) (cross .multiply2 .ensures) (low .multiply3 .ensures) (p .1),
         ),
       )
@@ -153,7 +158,8 @@ module _ (t : ℕ) where
       let places = p .0 .1 in
       let long = high .multiply4 .kept .0 ∙ low .multiply3 .kept .0 ∙ cross .multiply2 .kept .0 ∙ sums .add-halves .kept .0 in (
         (places .product, omega (arith, long), half, p .0 .3 .least, p .0 .3 .most),
-        three-ring (p .0 .3 .least) (three half places (sums .add-halves .ensures) (cross .multiply2 .ensures) (low .multiply3 .ensures) (high .multiply4 .ensures)),
+        three-ring (p .0 .3 .least) (three half places (sums .add-halves .ensures) (cross .multiply2 .ensures) (low .multiply3 .ensures)
+            (high .multiply4 .ensures)),
       )
 
   returns-2 : lts.Need-returns-2 (calls t) (multiply-at t) multiply.Post
@@ -164,7 +170,8 @@ module _ (t : ℕ) where
       let cross = crossed low in
       let sums = summed cross in
       let p = start (below sums) .pre .1 in
-      level-multiplied (below sums .halved .ensures .half) (p .0 .1) (sums .add-halves .ensures) (cross .multiply2 .ensures) (low .multiply3 .ensures) (high .multiply4 .ensures)
+      level-multiplied (below sums .halved .ensures .half) (p .0 .1) (sums .add-halves .ensures) (cross .multiply2 .ensures) (low .multiply3 .ensures)
+      (high .multiply4 .ensures)
       (p .0 .3 .least) (joined .join .ensures)
 
 pub +multiply-spec : {M : Type 1} → statement M

@@ -4,12 +4,12 @@ use native.Mathlib.Omega.{arith}
 use borrow.Author.Needs.{needs}
 use Prim.Native.Nat.{ℕ, _+_, _-_, _%_}
 use Rattle.ring.specs.Work.{part}
-use Rattle.ring.proofs.Work.{Writing, writing-none, writing-one, writing-all}
+use Rattle.ring.proofs.Work.{WritingWords, writing-none, writing-one, writing-all}
 use Rattle.products.proofs.fold.Statement.{statement}
 use Rattle.products.proofs.fold.Tie as tie
 
 abbrev Inv-loop : tie.InvT-loop
-Inv-loop work₀ c n modulus words at k₀ work k = Writing c n (λ j. (part words at j + part words at (n + j) + part work₀ c j) % modulus .q) work₀ k work
+Inv-loop work₀ c n modulus words at k₀ work k = WritingWords c n (λ j. (part words at j + part words at (n + j) + part work₀ c j) % modulus .q) work₀ k work
 
 abbrev μ-loop : tie.MeasureT-loop
 μ-loop work₀ c n modulus words at k₀ work k = n - k

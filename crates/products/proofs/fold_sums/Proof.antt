@@ -5,12 +5,12 @@ use borrow.Author.Needs.{needs}
 use Prim.Native.Nat.{ℕ, _+_, _-_, _%_, _≤_}
 use lib.ListN.{getD}
 use Rattle.ring.specs.Work.{part}
-use Rattle.ring.proofs.Work.{Writing, writing-none, writing-one, writing-all}
+use Rattle.ring.proofs.Work.{WritingWords, writing-none, writing-one, writing-all}
 use Rattle.products.proofs.fold_sums.Statement.{statement}
 use Rattle.products.proofs.fold_sums.Tie as tie
 
 abbrev Inv-loop : tie.InvT-loop
-Inv-loop work₀ c n modulus low k₀ work k = Writing c n (λ j. (getD low j 0 + getD low (n + j) 0 + part work₀ c j) % modulus .q) work₀ k work
+Inv-loop work₀ c n modulus low k₀ work k = WritingWords c n (λ j. (getD low j 0 + getD low (n + j) 0 + part work₀ c j) % modulus .q) work₀ k work
 
 abbrev μ-loop : tie.MeasureT-loop
 μ-loop work₀ c n modulus low k₀ work k = n - k
@@ -27,7 +27,11 @@ add-s-2 : tie.Need-add-s-2 Inv-loop μ-loop
 add-s-2 c = omega (arith, room (c .before .before))
 
 cast-s : tie.Need-cast-s Inv-loop μ-loop
-cast-s c = omega (arith, c .slice-known2 .given (c .before .before .before .before .before .before .before .args .c + c .before .before .before .before .loop .k))
+cast-s c = omega (
+  arith,
+  c .slice-known2 .given
+      (c .before .before .before .before .before .before .before .args .c + c .before .before .before .before .loop .k),
+)
 
 add-s-4 : tie.Need-add-s-4 Inv-loop μ-loop
 add-s-4 c =

@@ -5,7 +5,7 @@ use native.Mathlib.Nat.{lt-of-le-of-lt}
 use native.Mathlib.Omega.{arith}
 use lib.Dec.{lit<}
 use Rattle.rows.proofs.Bounds.{product-small}
-use Rattle.products.specs.Products.{Within}
+use Rattle.products.specs.Products.{ProductFits}
 use Rattle.products.proofs.multiply_add.Statement.{statement}
 use Rattle.products.proofs.multiply_add.Tie as tie
 
@@ -19,7 +19,7 @@ mul-if2 c =
 
 -- what both ask
 within : (c : tie.After-with-reciprocal) → let a = start c .args in
-    Within (record { a = a .a; b = a .b; c = a .c; n = a .n; top = a .top }) (c .with-reciprocal .result) (a .work .now)
+    ProductFits (record { a = a .a; b = a .b; c = a .c; n = a .n; top = a .top }) (c .with-reciprocal .result) (a .work .now)
 within c =
     let pre = start c .pre in
     let r = c .with-reciprocal .ensures in

@@ -56,7 +56,8 @@ returns c =
     let m = s .args .h .m in
     let both = factors copied in
     product-added (p .n) m (s .args .modulus .q) (part w (p .a)) (part w (p .b)) (part (copied .copy-from2 .last .0) 0) (part (copied .copy-from2 .last .0) m)
-    (part (multiplied .multiply .last .0) (m + m)) (s .pre .1 .enough) (both .0) (both .1) (multiplied .multiply .ensures .same) (p .c) w (folded .fold .ensures)
+    (part (multiplied .multiply .last .0) (m + m)) (s .pre .1 .enough) (both .0) (both .1) (multiplied .multiply .ensures .same) (p .c) w
+    (folded .fold .ensures)
 
 pub multiply-in-spec : {M : Type 1} → statement M
 multiply-in-spec =

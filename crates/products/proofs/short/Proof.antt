@@ -20,7 +20,7 @@ fold-sums-requires c κs =
     let p = s .args .p in
     let w = s .args .work .now in
     let within = s .pre .0 in (
-      (within .third, omega (arith, rows .sums .kept, s .pre .1), within .reciprocal),
+      (omega arith, omega (arith, rows .sums .kept, s .pre .1), within .reciprocal),
       sums-small (p .n) (s .args .modulus .q) (part w (p .a)) (part w (p .b)) (rows .sums .last .1 .1 .1 .1 .1 .1 .0) (rows .sums .ensures)
           (s .pre .1) (s .pre .2) (within .first-ring) (within .second-ring),
     )
@@ -31,7 +31,8 @@ returns c =
     let rows = folded .before .before .before .before in
     let a = start rows .args in
     let w = a .work .now in
-    sums-added (a .p .n) (a .modulus .q) (part w (a .p .a)) (part w (a .p .b)) (rows .sums .last .1 .1 .1 .1 .1 .1 .0) (rows .sums .ensures) (a .p .c) w (folded .fold-sums .ensures)
+    sums-added (a .p .n) (a .modulus .q) (part w (a .p .a)) (part w (a .p .b)) (rows .sums .last .1 .1 .1 .1 .1 .1 .0) (rows .sums .ensures) (a .p .c) w
+    (folded .fold-sums .ensures)
 
 pub short-spec : {M : Type 1} → statement M
 short-spec = tie.close (tie.spec (λ c. search needs) sums-requires (λ c. search needs) fold-sums-requires (λ c. search needs) returns)

@@ -4,12 +4,12 @@ use native.Mathlib.Omega.{arith}
 use borrow.Author.Needs.{needs}
 use Prim.Native.Nat.{ℕ, _+_, _-_, _%_}
 use Rattle.ring.specs.Work.{part}
-use Rattle.ring.proofs.Work.{Writing, writing-none, writing-one, writing-own-ring, writing-all}
+use Rattle.ring.proofs.Work.{WritingWords, writing-none, writing-one, writing-own-ring, writing-all}
 use Rattle.ring.proofs.add_from.Statement.{statement}
 use Rattle.ring.proofs.add_from.Tie as tie
 
 abbrev Inv-loop : tie.InvT-loop
-Inv-loop work₀ c other e n q k₀ work k = Writing c n (λ j. (part work₀ c j + part other e j) % q) work₀ k work
+Inv-loop work₀ c other e n q k₀ work k = WritingWords c n (λ j. (part work₀ c j + part other e j) % q) work₀ k work
 
 abbrev μ-loop : tie.MeasureT-loop
 μ-loop work₀ c other e n q k₀ work k = n - k
@@ -24,7 +24,7 @@ sum-requires : tie.Need-sum-requires Inv-loop μ-loop
 sum-requires c κs =
     let t = c .before .before in
     let pre = start t .pre in
-    (writing-own-ring (t .before .loop .inv) (pre .1 .0) (t .loop-test .taken), pre .1 .1 _ (t .loop-test .taken), pre .0 .2)
+    (writing-own-ring (t .before .loop .inv) (pre .1 .0) (t .loop-test .taken), pre .1 .1 _ (omega arith), pre .0 .2)
 
 loop-again : tie.Need-loop-again Inv-loop μ-loop
 loop-again c =

@@ -5,12 +5,12 @@ use borrow.Author.Needs.{needs}
 use Prim.Native.Nat.{ℕ, _+_, _-_, _*_, _%_, _<_}
 use Rattle.definitions.specs.Ring.{scale}
 use Rattle.ring.specs.Work.{part}
-use Rattle.ring.proofs.Work.{Writing, writing-none, writing-both, writing-own-ring, writing-apart, writing-all}
+use Rattle.ring.proofs.Work.{WritingWords, writing-none, writing-both, writing-own-ring, writing-apart, writing-all}
 use Rattle.ring.proofs.add_scaled.Statement.{statement}
 use Rattle.ring.proofs.add_scaled.Tie as tie
 
 abbrev Inv-loop : tie.InvT-loop
-Inv-loop work₀ c e l n q k₀ work k = Writing c n (λ j. (part work₀ c j + l * part work₀ e j) % q) work₀ k work
+Inv-loop work₀ c e l n q k₀ work k = WritingWords c n (λ j. (part work₀ c j + l * part work₀ e j) % q) work₀ k work
 
 abbrev μ-loop : tie.MeasureT-loop
 μ-loop work₀ c e l n q k₀ work k = n - k

@@ -5,12 +5,12 @@ use borrow.Author.Needs.{needs}
 use Prim.Native.Nat.{_-_}
 use mathlib.Core.Path.{refl}
 use Rattle.ring.specs.Work.{part}
-use Rattle.ring.proofs.Work.{Writing, writing-none, writing-more, writing-apart, writing-all}
+use Rattle.ring.proofs.Work.{WritingWords, writing-none, writing-more, writing-apart, writing-all}
 use Rattle.ring.proofs.copy.Statement.{statement}
 use Rattle.ring.proofs.copy.Tie as tie
 
 abbrev Inv-loop : tie.InvT-loop
-Inv-loop work₀ to from n k₀ work k = Writing to n (part work₀ from) work₀ k work
+Inv-loop work₀ to from n k₀ work k = WritingWords to n (part work₀ from) work₀ k work
 
 abbrev μ-loop : tie.MeasureT-loop
 μ-loop work₀ to from n k₀ work k = n - k

@@ -5,12 +5,12 @@ use borrow.Author.Needs.{needs}
 use Prim.Native.Nat.{_-_}
 use mathlib.Core.Path.{refl}
 use Rattle.ring.specs.Work.{part}
-use Rattle.ring.proofs.Work.{Writing, writing-none, writing-more, writing-all}
+use Rattle.ring.proofs.Work.{WritingWords, writing-none, writing-more, writing-all}
 use Rattle.ring.proofs.copy_from.Statement.{statement}
 use Rattle.ring.proofs.copy_from.Tie as tie
 
 abbrev Inv-loop : tie.InvT-loop
-Inv-loop to₀ at from start n k₀ to k = Writing at n (part from start) to₀ k to
+Inv-loop to₀ at from start n k₀ to k = WritingWords at n (part from start) to₀ k to
 
 abbrev μ-loop : tie.MeasureT-loop
 μ-loop to₀ at from start n k₀ to k = n - k

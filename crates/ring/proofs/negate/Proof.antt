@@ -4,12 +4,12 @@ use native.Mathlib.Omega.{arith}
 use borrow.Author.Needs.{needs}
 use Prim.Native.Nat.{ℕ, _-_, _%_}
 use Rattle.ring.specs.Work.{part}
-use Rattle.ring.proofs.Work.{Writing, writing-none, writing-one, writing-own-ring, writing-all}
+use Rattle.ring.proofs.Work.{WritingWords, writing-none, writing-one, writing-own-ring, writing-all}
 use Rattle.ring.proofs.negate.Statement.{statement}
 use Rattle.ring.proofs.negate.Tie as tie
 
 abbrev Inv-loop : tie.InvT-loop
-Inv-loop work₀ a n q k₀ work k = Writing a n (λ j. (q - part work₀ a j) % q) work₀ k work
+Inv-loop work₀ a n q k₀ work k = WritingWords a n (λ j. (q - part work₀ a j) % q) work₀ k work
 
 abbrev μ-loop : tie.MeasureT-loop
 μ-loop work₀ a n q k₀ work k = n - k

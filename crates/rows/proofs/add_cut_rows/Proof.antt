@@ -6,7 +6,7 @@ use borrow.Author.Needs.{needs}
 use Prim.Native.Nat.{_+_, _-_, _%_, _/_, _<_}
 use mathlib.Core.Path.{_≡_, refl}
 use Rattle.ring.specs.Work.{part}
-use Rattle.ring.proofs.Work.{Writing, writing-none, writing-more, writing-own, writing-all}
+use Rattle.ring.proofs.Work.{WritingWords, writing-none, writing-more, writing-own, writing-all}
 use Rattle.rows.specs.Rows.{fourRows, eightRows}
 use Rattle.rows.proofs.Rows.{row-sum-asked, row-sum-rows, rows-added}
 use Rattle.rows.proofs.add_cut_rows.Statement.{statement}
@@ -14,8 +14,8 @@ use Rattle.rows.proofs.add_cut_rows.Tie as tie
 
 abbrev Inv-loop : tie.InvT-loop
 Inv-loop low₀ high₀ words at m row i f g end k₀ low high k =
-    Writing i (m + 7) (λ j. part low₀ i j + eightRows (λ s. s % 4398046511104) m (part words at) (part row 7) i (i + j)) low₀ k low
-    × Writing i (m + 7) (λ j. part high₀ i j + eightRows (λ s. s / 4398046511104) m (part words at) (part row 7) i (i + j)) high₀ k high
+    WritingWords i (m + 7) (λ j. part low₀ i j + eightRows (λ s. s % 4398046511104) m (part words at) (part row 7) i (i + j)) low₀ k low
+    × WritingWords i (m + 7) (λ j. part high₀ i j + eightRows (λ s. s / 4398046511104) m (part words at) (part row 7) i (i + j)) high₀ k high
 
 abbrev μ-loop : tie.MeasureT-loop
 μ-loop low₀ high₀ words at m row i f g end k₀ low high k = m + 7 - k

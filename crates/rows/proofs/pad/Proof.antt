@@ -6,13 +6,13 @@ use Prim.Native.Nat.{ℕ, _+_, _-_}
 use mathlib.Core.Path.{refl, ap, _∙_}
 use lib.ListN.{length, length-replicate}
 use Rattle.ring.specs.Work.{part, written}
-use Rattle.ring.proofs.Work.{Writing, writing-none, writing-more, writing-all}
+use Rattle.ring.proofs.Work.{WritingWords, writing-none, writing-more, writing-all}
 use Rattle.rows.proofs.Rows.{surrounded-written}
 use Rattle.rows.proofs.pad.Statement.{statement}
 use Rattle.rows.proofs.pad.Tie as tie
 
 abbrev Inv-loop : tie.InvT-loop
-Inv-loop row₀ words from m k₀ row k = Writing 7 m (part words from) row₀ k row
+Inv-loop row₀ words from m k₀ row k = WritingWords 7 m (part words from) row₀ k row
 
 abbrev μ-loop : tie.MeasureT-loop
 μ-loop row₀ words from m k₀ row k = m - k

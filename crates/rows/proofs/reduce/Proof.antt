@@ -6,12 +6,12 @@ use Prim.Native.Nat.{_-_, _%_}
 use native.Mathlib.Nat.{zero-add}
 use mathlib.Core.Path.{sym}
 use lib.ListN.{getD}
-use Rattle.ring.proofs.Work.{Writing, writing-none, writing-more, writing-all}
+use Rattle.ring.proofs.Work.{WritingWords, writing-none, writing-more, writing-all}
 use Rattle.rows.proofs.reduce.Statement.{statement}
 use Rattle.rows.proofs.reduce.Tie as tie
 
 abbrev Inv-loop : tie.InvT-loop
-Inv-loop product₀ low n modulus k₀ product k = Writing 0 n (λ j. getD low j 0 % modulus .q) product₀ k product
+Inv-loop product₀ low n modulus k₀ product k = WritingWords 0 n (λ j. getD low j 0 % modulus .q) product₀ k product
 
 abbrev μ-loop : tie.MeasureT-loop
 μ-loop product₀ low n modulus k₀ product k = n - k

@@ -3,17 +3,17 @@
 -- Assumes nothing.
 use native.Mathlib.Omega.{arith}
 use borrow.Author.Needs.{needs}
-use Prim.Native.Nat.{_+_, _-_, _*_, _%_, _<_}
+use Prim.Native.Nat.{ℕ, _+_, _-_, _*_, _%_, _<_}
 use native.Mathlib.Nat.{zero-add, mod-lt, lt-trans}
 use mathlib.Core.Path.{sym, _∙_}
 use lib.ListN.{getD}
-use Rattle.ring.proofs.Work.{Writing, writing-none, writing-more, writing-all}
+use Rattle.ring.proofs.Work.{WritingWords, writing-none, writing-more, writing-all}
 use Rattle.rows.proofs.Bounds.{folded-high-small, folded-small, folded-cong}
 use Rattle.rows.proofs.reduce_cut.Statement.{statement}
 use Rattle.rows.proofs.reduce_cut.Tie as tie
 
 abbrev Inv-loop : tie.InvT-loop
-Inv-loop product₀ low high n modulus fold k₀ product k = Writing 0 n (λ j. (getD low j 0 + 4398046511104 * getD high j 0) % modulus .q) product₀ k product
+Inv-loop product₀ low high n modulus fold k₀ product k = WritingWords 0 n (λ j. (getD low j 0 + 4398046511104 * getD high j 0) % modulus .q) product₀ k product
 
 abbrev μ-loop : tie.MeasureT-loop
 μ-loop product₀ low high n modulus fold k₀ product k = n - k
@@ -21,19 +21,19 @@ abbrev μ-loop : tie.MeasureT-loop
 loop-holds : tie.Need-loop-holds Inv-loop μ-loop
 loop-holds c = writing-none (omega arith)
 
-small : (c : tie.Start Inv-loop μ-loop) → 4398046511104 % c .args .modulus .q < 2147483648
-small c = lt-trans (mod-lt _ (c .pre .0 .3 .least)) (c .pre .0 .3 .most)
+small : (c : tie.Start Inv-loop μ-loop) (x : ℕ) → x % c .args .modulus .q < 2147483648
+small c x = lt-trans (mod-lt x (c .pre .0 .3 .least)) (c .pre .0 .3 .most)
 
 mul-remainder-2 : tie.Need-mul-remainder-2 Inv-loop μ-loop
 mul-remainder-2 c =
     let s = c .before .before .before .before .before .before .before in
-    record { fits = folded-high-small (s .pre .1 .1 (c .before .before .loop .k) (omega arith)) (small s) }
+    record { fits = folded-high-small (s .pre .1 .1 (c .before .before .loop .k) (omega arith)) (small s _) }
 
 add-remainder : tie.Need-add-remainder Inv-loop μ-loop
 add-remainder c =
     let s = c .before .before .before .before .before .before .before .before in
     let k = c .before .before .before .loop .k in
-    record { fits = folded-small (s .pre .1 .1 k (omega arith)) (small s) (s .pre .1 .0 k (omega arith)) }
+    record { fits = folded-small (s .pre .1 .1 k (omega arith)) (small s _) (s .pre .1 .0 k (omega arith)) }
 
 loop-again : tie.Need-loop-again Inv-loop μ-loop
 loop-again c =
