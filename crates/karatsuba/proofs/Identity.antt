@@ -24,19 +24,25 @@ pub record Three (q m h at free : ℕ) (a b : Element) (words : List ℕ) : Type
   pub sums : (k : ℕ) → k < m → part words free k ≡ linear h (λ i. (a i + upper h a i) % q) (λ i. (b i + upper h b i) % q) k % q
 
 -- every coefficient is a remainder
-pub three-ring : {q m h at free : ℕ} {a b : Element} {words : List ℕ} → 0 < q → Three q m h at free a b words → InRing q (m + m) (part words at) × InRing q m (part words free)
-three-ring {q} {m} {h} {at} {free} {a} {b} {words} pos p =
-    (λ k l. elim (decLt k m) [ yes s ↦ rw (p .low k s) (mod-lt _ pos) | no s ↦ behind k (k - m) (omega arith) (omega arith) ], λ k l. rw (p .sums k l) (mod-lt _ pos))
+pub three-ring : {q m h at free : ℕ} {a b : Element} {words : List ℕ} → 0 < q → Three q m h at free a b words → InRing q (m + m) (part words at)
+    × InRing q m (part words free)
+three-ring {q} {m} {h} {at} {free} {a} {b} {words} pos p = (
+  λ k l. elim (decLt k m) [ yes s ↦ rw (p .low k s) (mod-lt _ pos) | no s ↦ behind k (k - m) (omega arith) (omega arith) ],
+  λ k l. rw (p .sums k l) (mod-lt _ pos),
+)
   where
     behind : (k i : ℕ) → i < m → at + m + i ≡ at + k → part words at k < q
     behind k i l e = subst (λ (j : ℕ). getD words j 0 < q) e (rw (p .high i l) (mod-lt _ pos))
 
 -- ---- Karatsuba's identity: the middle, added to the outer two h places up, gives the product
-module _ {q m h at free : ℕ} {a b : Element} {words words′ : List ℕ} (pos : 0 < q) (half : m ≡ h + h) (room : at + (m + m) ≤ free) (p : Three q m h at free a b words) (joined : Joined q m h at free words words′) where
-  middle : (k : ℕ) → k < m → Cong q (((part words free k + (q - part words at k)) % q + (q - part words (at + m) k)) % q) (linear h a (upper h b) k + linear h (upper h a) b k)
+module _ {q m h at free : ℕ} {a b : Element} {words words′ : List ℕ} (pos : 0 < q) (half : m ≡ h + h) (room : at + (m + m) ≤ free)
+    (p : Three q m h at free a b words) (joined : Joined q m h at free words words′) where
+  middle : (k : ℕ) → k < m → Cong q (((part words free k + (q - part words at k)) % q + (q - part words (at + m) k)) % q)
+      (linear h a (upper h b) k + linear h (upper h a) b k)
   middle k l =
       rw (p .sums k l, p .high k l, p .low k l)
-      (cong-trans (cong-mod q _) (linear-middle h a b pos (λ i t. ap (λ (x : ℕ). x % q) (add-comm (a i) _)) (λ i t. ap (λ (x : ℕ). x % q) (add-comm (b i) _)) k))
+      (cong-trans (cong-mod q _) (linear-middle h a b pos (λ i t. ap (λ (x : ℕ). x % q) (add-comm (a i) _))
+      (λ i t. ap (λ (x : ℕ). x % q) (add-comm (b i) _)) k))
 
   first-quarter : (k : ℕ) → k < h → part words′ at k ≡ linear (h + h) a b k % q
   first-quarter k l = joined .low (at + k) (omega arith) ∙ p .low k (omega arith) ∙ ap (λ (x : ℕ). x % q) (sym (linear-first h a b l))
@@ -56,7 +62,8 @@ module _ {q m h at free : ℕ} {a b : Element} {words words′ : List ℕ} (pos 
       let outer : at + h + (h + k) ≡ at + m + k = omega arith in
       ap (λ (j : ℕ). getD words′ j 0) place
       ∙ joined .middle (h + k) (omega arith)
-      ∙ (cong-add (cong-trans (cong-of-eq (ap (λ (j : ℕ). getD words j 0) outer ∙ p .high k (omega arith))) (cong-mod q _)) (middle (h + k) (omega arith))) .same
+      ∙ (cong-add (cong-trans (cong-of-eq (ap (λ (j : ℕ). getD words j 0) outer ∙ p .high k (omega arith))) (cong-mod q _))
+      (middle (h + k) (omega arith))) .same
       ∙ ap (λ (x : ℕ). x % q) (add-comm _ _ ∙ sym (linear-third h a b k))
 
   fourth-quarter : (k : ℕ) → k < h → part words′ at (h + h + (h + k)) ≡ linear (h + h) a b (h + h + (h + k)) % q

@@ -1,35 +1,16 @@
--- What one list written over the words leaves at each place, and what several leave: the steps before and after the three products.
---
---   Wrote            the words with f's first n values written over them from a place on; all others as they were
---
+-- What several lists written over the words leave at each place: the steps before and after the three products.
 -- Assumes nothing.
 use Prim.Native.Nat.{ℕ, _+_, _-_, _%_, _≤_, _<_}
 use native.Mathlib.Nat.{add-assoc, mod-lt, mod-eq-of-lt}
 use native.Mathlib.Omega.{arith}
-use mathlib.Core.Path.{_≡_, _∙_, ap, ap₂}
+use mathlib.Core.Path.{_≡_, _∙_, ap₂, subst}
 use mathlib.Core.List.{List}
 use lib.ListN.{length, getD}
 use Rattle.definitions.specs.Sequences.{tabulate}
 use Rattle.definitions.specs.Ring.{InRing}
-use Rattle.definitions.proofs.Sums.{length-tabulate}
 use Rattle.ring.specs.Work.{part, written, elementAdded, elementTaken}
-use Rattle.ring.proofs.Work.{getD-written-before, getD-written-after, length-written-tabulate, part-written}
+use Rattle.ring.proofs.Work.{Wrote, wrote}
 use Rattle.karatsuba.specs.Products.{BoundsSums, HalvesAdded, Joined}
-
--- ---- one list written
-pub record Wrote (at n : ℕ) (f : ℕ → ℕ) (old new : List ℕ) : Type 0 where
-  pub as-long : length new ≡ length old
-  pub inside : (k : ℕ) → k < n → part new at k ≡ f k
-  pub before : (k : ℕ) → k < at → getD new k 0 ≡ getD old k 0
-  pub after : (k : ℕ) → at + n ≤ k → getD new k 0 ≡ getD old k 0
-
-pub wrote : {at n : ℕ} {f : ℕ → ℕ} {old new : List ℕ} → at + n ≤ length old → new ≡ written at (tabulate n f) old → Wrote at n f old new
-wrote {at} {n} {f} {old} {new} fit e = record {
-  as-long = ap length e ∙ length-written-tabulate at n f old fit;
-  inside = λ k l. ap (λ (x : List ℕ). part x at k) e ∙ part-written at n f old (omega arith) l;
-  before = λ k l. ap (λ (x : List ℕ). getD x k 0) e ∙ getD-written-before at (tabulate n f) old (omega arith) l;
-  after = λ k l. ap (λ (x : List ℕ). getD x k 0) e ∙ getD-written-after at (tabulate n f) old (omega arith) (omega (arith, length-tabulate n f));
-}
 
 -- ---- coefficients stay below their bounds
 
@@ -39,8 +20,16 @@ lower-ring at words fit ring k l = ring k (omega arith)
 pub upper-ring : {q m h : ℕ} (at from : ℕ) (words : List ℕ) → from + h ≤ m → InRing q m (part words at) → InRing q h (part words (at + from))
 upper-ring at from words fit ring k l = rw (add-assoc at from k) (ring (from + k) (omega arith))
 
-pub kept-ring : {q m at : ℕ} (from : ℕ) (old new : List ℕ) → from + m ≤ at → ((k : ℕ) → k < at → getD new k 0 ≡ getD old k 0) → InRing q m (part old from) → InRing q m (part new from)
+pub kept-ring : {q m at : ℕ} (from : ℕ) (old new : List ℕ) → from + m ≤ at → ((k : ℕ) → k < at → getD new k 0 ≡ getD old k 0) → InRing q m (part old from)
+    → InRing q m (part new from)
 kept-ring from old new fit kept ring k l = rw (kept (from + k) (omega arith)) (ring k l)
+
+-- at any place of a part that is kept
+pub kept-at : (from : ℕ) (old new : List ℕ) {q n at : ℕ} → ((k : ℕ) → k < at → getD new k 0 ≡ getD old k 0) → from + n ≤ at → InRing q n (part old from)
+    → (j : ℕ) → from ≤ j → j < from + n → getD new j 0 < q
+kept-at from old new {q} kept fit ring j l s =
+    let place : from + (j - from) ≡ j = omega arith in
+    rw (kept j (omega arith)) (subst (λ (i : ℕ). getD old i 0 < q) place (ring (j - from) (omega arith)))
 
 pub inside-ring : {q at n : ℕ} {f : ℕ → ℕ} {old new : List ℕ} → Wrote at n f old new → InRing q n f → InRing q n (part new at)
 inside-ring w ring k l = rw (w .inside k l) (ring k l)
@@ -57,12 +46,10 @@ doubled-full {q} pos = record { most = omega arith; bounds = λ x y h g. mod-lt 
 
 -- ---- the sums of the halves
 
-pub copied-ring : {q h at : ℕ} (a : ℕ) {words mid : List ℕ} → a + (h + h) ≤ at → Wrote at h (part words a) words mid → InRing q (h + h) (part words a) → InRing q h (part mid at) × InRing q h (part mid (a + h))
-copied-ring {h = h} a {words} {mid} fit w ring = (inside-ring w (λ k l. ring k (omega arith)), kept-ring (a + h) words mid (omega arith) (w .before) (upper-ring a h words (omega arith) ring))
-
 -- a copy of the lower half, and the upper one added to it
 pub wrote-sum : {h at : ℕ} (q a : ℕ) {words mid new : List ℕ} → a + (h + h) ≤ at → at + h ≤ length words
-    → mid ≡ written at (tabulate h (part words a)) words → new ≡ elementAdded h q (a + h) at mid → Wrote at h (λ k. (part words a k + part words (a + h) k) % q) words new
+    → mid ≡ written at (tabulate h (part words a)) words → new ≡ elementAdded h q (a + h) at mid
+    → Wrote at h (λ k. (part words a k + part words (a + h) k) % q) words new
 wrote-sum {h} {at} q a {words} {mid} inside fit e g =
     let w = wrote fit e in
     let v = wrote {old = mid} (omega (arith, w .as-long)) g in
@@ -74,7 +61,8 @@ wrote-sum {h} {at} q a {words} {mid} inside fit e g =
     }
 
 pub halves-added : {q h a b at : ℕ} {words mid new : List ℕ} → b + (h + h) ≤ at
-    → Wrote at h (λ k. (part words a k + part words (a + h) k) % q) words mid → Wrote (at + h) h (λ k. (part mid b k + part mid (b + h) k) % q) mid new → HalvesAdded q h a b at words new
+    → Wrote at h (λ k. (part words a k + part words (a + h) k) % q) words mid → Wrote (at + h) h (λ k. (part mid b k + part mid (b + h) k) % q) mid new
+    → HalvesAdded q h a b at words new
 halves-added {q} {h} {a} {b} {at} {words} {mid} inside w v = record {
   kept = λ k l. v .before k (omega arith) ∙ w .before k l;
   behind = λ k l. v .after k (omega arith) ∙ w .after k (omega arith);
@@ -84,7 +72,8 @@ halves-added {q} {h} {a} {b} {at} {words} {mid} inside w v = record {
 
 -- ---- the three products put together
 pub joined : {q m h at free : ℕ} {words first second new : List ℕ} → at + (m + m) ≤ free → free + m ≤ length words → m ≡ h + h
-    → first ≡ elementTaken m q at free words → second ≡ elementTaken m q (at + m) free first → new ≡ elementAdded m q free (at + h) second → Joined q m h at free words new
+    → first ≡ elementTaken m q at free words → second ≡ elementTaken m q (at + m) free first → new ≡ elementAdded m q free (at + h) second
+    → Joined q m h at free words new
 joined {q} {m} {h} {at} {free} {words} {first} {second} room fit half e g d =
     let u = wrote (omega arith) e in
     let v = wrote {old = first} (omega (arith, u .as-long)) g in

@@ -5,11 +5,32 @@
 // below. The sums of the halves stand where the outer two products come once they are used. Nothing is refused: callers lend 2 m words
 // for the product and 2 m more that are free. Contracts cite ring's linear by specs/Products.antt.
 ghost use mathlib.Core.Path.{_≡_};
-ghost use Prim.Native.Nat.{_+_, _*_, _^_, _/_, _<_, _≤_};
+ghost use Prim.Native.Nat.{_+_, _<_, _≤_};
 ghost use lib.ListN.{length};
 ghost use Rattle.definitions.specs.Ring.{InRing};
 ghost use Rattle.ring.specs.Work.{part};
-ghost use Rattle.karatsuba.specs.Products.{Multiplied, BoundsSums, HalvesAdded, Joined};
+ghost use Rattle.reduction.specs.Moduli.{Reciprocal};
+ghost use Rattle.karatsuba.specs.Products.{Halvable, LevelBelow, Placing, Multiplied, BoundsSums, HalvesAdded, Joined};
+use reduction::Modulus;
+
+// How a product of m coefficients is halved: so many times, down to leaves; m is leaf times 2^levels.
+pub struct Halving {
+    pub levels: usize,
+    pub leaf: usize,
+    pub m: usize,
+}
+
+// A level below.
+fn halved(h: Halving) -> Halving
+    requires { ⌜ Halvable h × (h .levels ≡ 0 → ⊥) ⌝ }
+    ensures { λ r. ⌜ LevelBelow h r ⌝ }
+{
+    Halving {
+        levels: h.levels - 1,
+        leaf: h.leaf,
+        m: h.m / 2,
+    }
+}
 
 // A bound of the sum of two coefficients below top, modulo q.
 fn doubled(top: u32, q: u32) -> u32
@@ -42,42 +63,39 @@ fn join(words: &mut [u32], at: usize, free: usize, m: usize, h: usize, q: u32)
     ring::add(words, at + h, free, m, q);
 }
 
-// The product modulo q of the polynomials of m coefficients that stand from a and from b on in the words, to the words from at on; m is
-// leaf times 2^levels, and top a bound of the second one's coefficients. The words from free on are left as anything.
+// The product modulo q of the polynomials of m coefficients that stand from a and from b on in the words, to the words from at on; top is a
+// bound of the second one's coefficients. The words from free on are left as anything.
 pub fn multiply(
     words: &mut [u32],
     a: usize,
     b: usize,
     at: usize,
     free: usize,
-    levels: usize,
-    leaf: usize,
-    m: usize,
-    q: u32,
+    h: Halving,
+    modulus: Modulus,
     top: u32,
-    reciprocal: u64,
 )
-    requires { ⌜ (m ≡ leaf * 2 ^ levels) × (leaf ≤ 80) × (m ≤ 4096) × (a + m ≤ at) × (b + m ≤ at) × (at + (m + m) ≤ free) × (free + (m + m) ≤ length (now words)) ⌝ }
-    requires { ⌜ (top ≤ q) × (0 < q) × (q < 2147483648) × (reciprocal ≡ 18446744073709551615 / q) ⌝ }
-    requires { ⌜ InRing q m (part (now words) a) × InRing top m (part (now words) b) ⌝ }
-    ensures { λ _. ⌜ Multiplied q m a b at free (now (words .entry)) (now (words .exit)) ⌝ }
+    requires { ⌜ Halvable h × Placing (h .m) a b at free (now words) × (top ≤ modulus .q) × Reciprocal modulus ⌝ }
+    requires { ⌜ InRing (modulus .q) (h .m) (part (now words) a) × InRing top (h .m) (part (now words) b) ⌝ }
+    ensures { λ _. ⌜ Multiplied (modulus .q) (h .m) a b at free (now (words .entry)) (now (words .exit)) ⌝ }
 {
-    if levels == 0 {
-        rows::multiply(words, a, b, at, leaf, q, top, reciprocal);
+    if h.levels == 0 {
+        rows::multiply(words, a, b, at, h.leaf, modulus, top);
         return;
     }
-    let h = m / 2;
-    let below = levels - 1;
-    let r = doubled(top, q);
+    let below = halved(h);
+    let m = h.m;
+    let half = below.m;
+    let r = doubled(top, modulus.q);
     // Where the upper halves, the second sum, the second product and the words of the level below stand.
-    let a1 = a + h;
-    let b1 = b + h;
-    let mid = at + h;
+    let a1 = a + half;
+    let b1 = b + half;
+    let mid = at + half;
     let up = at + m;
     let rest = free + m;
-    add_halves(words, a, b, at, h, q);
-    multiply(words, at, mid, free, rest, below, leaf, h, q, r, reciprocal);
-    multiply(words, a, b, at, rest, below, leaf, h, q, top, reciprocal);
-    multiply(words, a1, b1, up, rest, below, leaf, h, q, top, reciprocal);
-    join(words, at, free, m, h, q);
+    add_halves(words, a, b, at, half, modulus.q);
+    multiply(words, at, mid, free, rest, below, modulus, r);
+    multiply(words, a, b, at, rest, below, modulus, top);
+    multiply(words, a1, b1, up, rest, below, modulus, top);
+    join(words, at, free, m, half, modulus.q);
 }

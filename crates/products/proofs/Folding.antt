@@ -25,11 +25,13 @@ sum-padded n m f h none =
     ap (λ (j : ℕ). sum j f) e ∙ sum-append n (m - n) f ∙ rw rest (add-zero (sum n f))
 
 -- coefficients that are 0 from n on
-pub linear-padded : (n m : ℕ) (a b : Element) → n ≤ m → ((i : ℕ) → n ≤ i → i < m → a i ≡ 0) → ((i : ℕ) → n ≤ i → i < m → b i ≡ 0) → (k : ℕ) → linear m a b k ≡ linear n a b k
+pub linear-padded : (n m : ℕ) (a b : Element) → n ≤ m → ((i : ℕ) → n ≤ i → i < m → a i ≡ 0) → ((i : ℕ) → n ≤ i → i < m → b i ≡ 0) → (k : ℕ)
+    → linear m a b k ≡ linear n a b k
 unfolding linear
 linear-padded n m a b h none-a none-b k =
     sum-padded n m (λ i. a i * sum m (λ j. b j * sameNumber (i + j) k)) h (λ i s l. rw (none-a i s l) (zero-mul (sum m (λ j. b j * sameNumber (i + j) k))))
-    ∙ sum-cong n (λ i l. ap (λ (x : ℕ). a i * x) (sum-padded n m (λ j. b j * sameNumber (i + j) k) h (λ j s u. rw (none-b j s u) (zero-mul (sameNumber (i + j) k)))))
+    ∙ sum-cong n (λ i l. ap (λ (x : ℕ). a i * x)
+    (sum-padded n m (λ j. b j * sameNumber (i + j) k) h (λ j s u. rw (none-b j s u) (zero-mul (sameNumber (i + j) k)))))
 
 sameNumber-shift : (n j k : ℕ) → sameNumber (n + j) (n + k) ≡ sameNumber j k
 sameNumber-shift n j k =
@@ -68,7 +70,8 @@ conv-linear n a b {k} l = sum-cong n (λ i s. row i s) ∙ sum-add n (λ i. a i 
         ∙ mul-add (a i) (moved i k) (moved i (n + k))
 
 -- f and g are the factors, filled up to m, and p their product, reduced: its fold is the product in R_q
-module _ (n m q : ℕ) (a b f g p : Element) (fits : n ≤ m) (left : Loaded n m a f) (right : Loaded n m b g) (same : (k : ℕ) → k < m + m → p k ≡ linear m f g k % q) where
+module _ (n m q : ℕ) (a b f g p : Element) (fits : n ≤ m) (left : Loaded n m a f) (right : Loaded n m b g)
+    (same : (k : ℕ) → k < m + m → p k ≡ linear m f g k % q) where
   product-cong : (k : ℕ) → k < m + m → Cong q (p k) (linear n a b k)
   product-cong k l =
       rw (same k l, linear-padded n m f g fits (left .outside) (right .outside) k, linear-cong n (left .inside) (right .inside) k) (cong-mod q (linear n a b k))
@@ -87,10 +90,13 @@ module _ (n q : ℕ) (a b : Element) (low : List ℕ) (same : (k : ℕ) → getD
   sums-folded {k} l = rw (same k, same (n + k)) (sym (conv-linear n a b l))
 
   -- they leave room for a word of 32 bits
-  pub sums-small : {top : ℕ} → n ≤ 80 → q * top ≤ 230584300867682304 → InRing q n a → InRing top n b → (k : ℕ) → k < n → getD low k 0 + getD low (n + k) 0 ≤ 18446744069414584320
+  pub sums-small : {top : ℕ} → n ≤ 80 → q * top ≤ 230584300867682304 → InRing q n a → InRing top n b → (k : ℕ) → k < n
+      → getD low k 0 + getD low (n + k) 0 ≤ 18446744069414584320
   sums-small {top} few h x y k l =
       let most : n * (q * top) ≤ 18446744069414584320 = mul-le-mul few h in
       omega (arith, sums-folded l, conv-le n q top a b (λ i s. le-of-lt (x i s)) (λ i s. le-of-lt (y i s)) k)
 
-  pub sums-added : (at : ℕ) (old : List ℕ) {new : List ℕ} → new ≡ written at (tabulate n (λ k. (getD low k 0 + getD low (n + k) 0 + part old at k) % q)) old → new ≡ written at (tabulate n (λ k. (conv n a b k + part old at k) % q)) old
+  pub sums-added : (at : ℕ) (old : List ℕ) {new : List ℕ}
+      → new ≡ written at (tabulate n (λ k. (getD low k 0 + getD low (n + k) 0 + part old at k) % q)) old
+      → new ≡ written at (tabulate n (λ k. (conv n a b k + part old at k) % q)) old
   sums-added at old e = e ∙ ap (λ (l : List ℕ). written at l old) (tabulate-cong n (λ k l. ap (λ (x : ℕ). (x + part old at k) % q) (sums-folded l)))

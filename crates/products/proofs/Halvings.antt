@@ -51,11 +51,15 @@ leaves-most n {levels} {leaves} h l =
     let whole : d * leaves ≡ 4096 = ap (λ (x : ℕ). d * x) (h .power) ∙ sym (pow-add 2 (12 - levels) levels) ∙ ap (λ (k : ℕ). 2 ^ k) long in
     omega (arith, mul-le-mul-right leaves (leaf-least n leaves d (h .some) (omega arith)))
 
-pub leaves-fit : (n : ℕ) {levels leaves : ℕ} → Leaves levels leaves → n ≤ 80 * leaves → n ≤ 4096 → Fit n (record { levels = levels; leaf = (n + (leaves - 1)) / leaves; m = (n + (leaves - 1)) / leaves * leaves })
+pub leaves-fit : (n : ℕ) {levels leaves : ℕ} → Leaves levels leaves → n ≤ 80 * leaves → n ≤ 4096
+    → Fit n (record { levels = levels; leaf = (n + (leaves - 1)) / leaves; m = (n + (leaves - 1)) / leaves * leaves })
 leaves-fit n {levels} {leaves} h l g =
     record {
       enough = leaf-enough n leaves (h .some);
-      whole = ap (λ (x : ℕ). (n + (leaves - 1)) / leaves * x) (h .power);
-      short = leaf-least n leaves 80 (h .some) l;
-      most = leaves-most n h g;
+      halvable =
+          record {
+            whole = ap (λ (x : ℕ). (n + (leaves - 1)) / leaves * x) (h .power);
+            short = leaf-least n leaves 80 (h .some) l;
+            most = leaves-most n h g;
+          };
     }

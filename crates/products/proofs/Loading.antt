@@ -43,13 +43,13 @@ module _ (n m : ℕ) (a b : Element) (old mid new : List ℕ) (fits : n ≤ m) (
   new-front j l =
       ap (λ (w : List ℕ). part w 0 j) behind ∙ getD-written-before m (tabulate n b) mid (omega (arith, length-mid)) (omega arith)
 
-  pub loaded-front : Loaded n m a (part new 0)
+  loaded-front : Loaded n m a (part new 0)
   loaded-front = record {
     inside = λ k l. new-front k (omega arith) ∙ ap (λ (w : List ℕ). part w 0 k) front ∙ part-written 0 n a old zero-le l;
     outside = λ k h l. new-front k l ∙ mid-past (0 + k) (omega arith) (omega arith);
   }
 
-  pub loaded-behind : Loaded n m b (part new m)
+  loaded-behind : Loaded n m b (part new m)
   loaded-behind = record {
     inside = λ k l. ap (λ (w : List ℕ). part w m k) behind ∙ part-written m n b mid (omega (arith, length-mid)) l;
     outside = λ k h l.
@@ -57,3 +57,6 @@ module _ (n m : ℕ) (a b : Element) (old mid new : List ℕ) (fits : n ≤ m) (
         ∙ getD-written-after m (tabulate n b) mid (omega (arith, length-mid)) (omega (arith, length-tabulate n b))
         ∙ mid-past (m + k) (omega arith) (omega arith);
   }
+
+  pub loaded-both : Loaded n m a (part new 0) × Loaded n m b (part new m)
+  loaded-both = (loaded-front, loaded-behind)

@@ -2,12 +2,15 @@
 // own, then t^n = 1 and one reduction; a short one is summed row by row from where its factors stand. Nothing is refused: callers keep
 // parts within the words and coefficients below q. Contracts cite ring's productAdded; those of the steps also specs/Products.antt.
 ghost use mathlib.Core.Path.{_≡_};
-ghost use Prim.Native.Nat.{ℕ, _+_, _*_, _%_, _/_, _<_, _≤_};
+ghost use Prim.Native.Nat.{ℕ, _+_, _*_, _%_, _<_, _≤_};
 ghost use lib.ListN.{length, getD};
 ghost use Rattle.definitions.specs.Sequences.{tabulate};
 ghost use Rattle.definitions.specs.Ring.{InRing, elementOf};
 ghost use Rattle.ring.specs.Work.{part, written, productAdded};
-ghost use Rattle.products.specs.Products.{Within, taken, Fit};
+ghost use Rattle.reduction.specs.Moduli.{Reciprocal};
+ghost use Rattle.products.specs.Products.{ProductFits, withProduct, Fit};
+use karatsuba::Halving;
+use reduction::Modulus;
 
 // The most coefficients of a product that is summed row by row.
 const SHORT: usize = 80;
@@ -19,18 +22,10 @@ struct Product {
     b: usize,
     c: usize,
     n: usize,
-    q: u32,
     top: u32,
 }
 
-// How a product of n coefficients is halved: so many times, down to leaves of at most 80; m is leaf times 2^levels.
-struct Halving {
-    levels: usize,
-    leaf: usize,
-    m: usize,
-}
-
-// To the fewest leaves: twice as many until they are short enough.
+// How a product of n coefficients is halved: to the fewest leaves, twice as many until they are short enough.
 fn split(n: usize) -> Halving
     requires { ⌜ n ≤ 4096 ⌝ }
     ensures { λ r. ⌜ Fit n r ⌝ }
@@ -50,100 +45,86 @@ fn split(n: usize) -> Halving
 }
 
 // The sum of three coefficients modulo q.
-fn folded(x: u32, y: u32, z: u32, q: u32, reciprocal: u64) -> u32
-    requires { ⌜ (0 < q) × (q < 2147483648) × (reciprocal ≡ 18446744073709551615 / q) ⌝ }
-    ensures { λ r. ⌜ r ≡ (x + y + z) % q ⌝ }
+fn folded(x: u32, y: u32, z: u32, modulus: Modulus) -> u32
+    requires { ⌜ Reciprocal modulus ⌝ }
+    ensures { λ r. ⌜ r ≡ (x + y + z) % modulus .q ⌝ }
 {
     let s = x as u64 + y as u64 + z as u64;
-    reduction::remainder(s, q, reciprocal)
+    reduction::remainder(s, modulus)
 }
 
 // t^n = 1: of the product that stands from at on in other words, the places from n on come to those from 0 on, and c is added.
-fn fold(work: &mut [u32], c: usize, n: usize, q: u32, reciprocal: u64, words: &[u32], at: usize)
-    requires { ⌜ (c + n ≤ length (now work)) × (at + (n + n) ≤ length (now words)) × (0 < q) × (q < 2147483648) × (reciprocal ≡ 18446744073709551615 / q) ⌝ }
-    ensures { λ _. ⌜ now (work .exit) ≡ written c (tabulate n (λ k. (part (now (words .entry)) at k + part (now (words .entry)) at (n + k) + part (now (work .entry)) c k) % q)) (now (work .entry)) ⌝ }
+fn fold(work: &mut [u32], c: usize, n: usize, modulus: Modulus, words: &[u32], at: usize)
+    requires { ⌜ (c + n ≤ length (now work)) × (at + (n + n) ≤ length (now words)) × Reciprocal modulus ⌝ }
+    ensures { λ _. ⌜ now (work .exit) ≡ written c (tabulate n (λ k. (part (now (words .entry)) at k + part (now (words .entry)) at (n + k) + part (now (work .entry)) c k) % modulus .q)) (now (work .entry)) ⌝ }
 {
     let mut k = 0;
     while k < n {
         let low = words[at + k];
         let high = words[at + (n + k)];
-        work[c + k] = folded(low, high, work[c + k], q, reciprocal);
+        work[c + k] = folded(low, high, work[c + k], modulus);
         k += 1;
     }
 }
 
 // The same of sums that are not reduced.
-fn fold_sums(work: &mut [u32], c: usize, n: usize, q: u32, reciprocal: u64, low: &[u64])
-    requires { ⌜ (c + n ≤ length (now work)) × (n + n ≤ length (now low)) × (0 < q) × (q < 2147483648) × (reciprocal ≡ 18446744073709551615 / q) ⌝ }
+fn fold_sums(work: &mut [u32], c: usize, n: usize, modulus: Modulus, low: &[u64])
+    requires { ⌜ (c + n ≤ length (now work)) × (n + n ≤ length (now low)) × Reciprocal modulus ⌝ }
     requires { ⌜ ((k : ℕ) → k < n → getD (now low) k 0 + getD (now low) (n + k) 0 ≤ 18446744069414584320) ⌝ }
-    ensures { λ _. ⌜ now (work .exit) ≡ written c (tabulate n (λ k. (getD (now (low .entry)) k 0 + getD (now (low .entry)) (n + k) 0 + part (now (work .entry)) c k) % q)) (now (work .entry)) ⌝ }
+    ensures { λ _. ⌜ now (work .exit) ≡ written c (tabulate n (λ k. (getD (now (low .entry)) k 0 + getD (now (low .entry)) (n + k) 0 + part (now (work .entry)) c k) % modulus .q)) (now (work .entry)) ⌝ }
 {
     let mut k = 0;
     while k < n {
         let s = low[k] + low[n + k] + work[c + k] as u64;
-        work[c + k] = reduction::remainder(s, q, reciprocal);
+        work[c + k] = reduction::remainder(s, modulus);
         k += 1;
     }
 }
 
 // The product of p, row by row: short enough that the sums fit a word.
-fn short(work: &mut [u32], p: Product)
-    requires { ⌜ Within p (now work) × (p .n ≤ 80) × (p .q * p .top ≤ 230584300867682304) ⌝ }
-    ensures { λ _. ⌜ now (work .exit) ≡ taken p (now (work .entry)) ⌝ }
+fn short(work: &mut [u32], p: Product, modulus: Modulus)
+    requires { ⌜ ProductFits p modulus (now work) × (p .n ≤ 80) × (modulus .q * p .top ≤ 230584300867682304) ⌝ }
+    ensures { λ _. ⌜ now (work .exit) ≡ withProduct p (modulus .q) (now (work .entry)) ⌝ }
 {
     let mut low = [0u64; 168];
-    rows::sums(work, p.a, p.b, p.n, p.q, p.top, &mut low);
-    let reciprocal = reduction::reciprocal(p.q);
-    fold_sums(work, p.c, p.n, p.q, reciprocal, &low);
+    rows::sums(work, p.a, p.b, p.n, modulus.q, p.top, &mut low);
+    fold_sums(work, p.c, p.n, modulus, &low);
 }
 
 // The product of p in other words: a from 0 on and b from m on, each filled up with 0, their product from 2 m on, and behind it the words
 // that Karatsuba's product needs.
-fn multiply_in(work: &mut [u32], p: Product, h: Halving, words: &mut [u32])
-    requires { ⌜ Within p (now work) × Fit (p .n) h × (6 * h .m ≤ length (now words)) × InRing 1 (2 * h .m) (elementOf (now words)) ⌝ }
-    ensures { λ _. ⌜ now (work .exit) ≡ taken p (now (work .entry)) ⌝ }
+fn multiply_in(work: &mut [u32], p: Product, modulus: Modulus, h: Halving, words: &mut [u32])
+    requires { ⌜ ProductFits p modulus (now work) × Fit (p .n) h × (6 * h .m ≤ length (now words)) × InRing 1 (2 * h .m) (elementOf (now words)) ⌝ }
+    ensures { λ _. ⌜ now (work .exit) ≡ withProduct p (modulus .q) (now (work .entry)) ⌝ }
 {
     let m = h.m;
     let at = m + m;
     let free = at + at;
     ring::copy_from(words, 0, work, p.a, p.n);
     ring::copy_from(words, m, work, p.b, p.n);
-    let reciprocal = reduction::reciprocal(p.q);
-    karatsuba::multiply(
-        words,
-        0,
-        m,
-        at,
-        free,
-        h.levels,
-        h.leaf,
-        m,
-        p.q,
-        p.top,
-        reciprocal,
-    );
-    fold(work, p.c, p.n, p.q, reciprocal, words, at);
+    karatsuba::multiply(words, 0, m, at, free, h, modulus, p.top);
+    fold(work, p.c, p.n, modulus, words, at);
 }
 
 // The same in an array of the least of three sizes: what it is cleared by is then little beside the product.
-fn multiply_long(work: &mut [u32], p: Product)
-    requires { ⌜ Within p (now work) × (p .n ≤ 4096) ⌝ }
-    ensures { λ _. ⌜ now (work .exit) ≡ taken p (now (work .entry)) ⌝ }
+fn multiply_long(work: &mut [u32], p: Product, modulus: Modulus)
+    requires { ⌜ ProductFits p modulus (now work) × (p .n ≤ 4096) ⌝ }
+    ensures { λ _. ⌜ now (work .exit) ≡ withProduct p (modulus .q) (now (work .entry)) ⌝ }
 {
     let h = split(p.n);
     let m = h.m;
     if m <= 80 {
         let mut words = [0u32; 480];
-        multiply_in(work, p, h, &mut words);
+        multiply_in(work, p, modulus, h, &mut words);
         return;
     }
     if m <= 1280 {
         let mut words = [0u32; 7680];
-        multiply_in(work, p, h, &mut words);
+        multiply_in(work, p, modulus, h, &mut words);
         return;
     }
     let mut words = [0u32; 24576];
-    multiply_in(work, p, h, &mut words);
+    multiply_in(work, p, modulus, h, &mut words);
 }
 
 // In place c := a × b + c in R_q; top is a bound of b's coefficients. All other words are kept.
@@ -152,19 +133,19 @@ pub fn multiply_add(work: &mut [u32], a: usize, b: usize, c: usize, n: usize, q:
     requires { ⌜ InRing q n (part (now work) a) × InRing top n (part (now work) b) ⌝ }
     ensures { λ _. ⌜ now (work .exit) ≡ productAdded n q a b c (now (work .entry)) ⌝ }
 {
+    let modulus = reduction::with_reciprocal(q);
     let p = Product {
         a: a,
         b: b,
         c: c,
         n: n,
-        q: q,
         top: top,
     };
     if n <= SHORT {
         if (q as u64) * (top as u64) <= rows::UNCUT {
-            short(work, p);
+            short(work, p, modulus);
             return;
         }
     }
-    multiply_long(work, p);
+    multiply_long(work, p, modulus);
 }

@@ -1,7 +1,8 @@
 -- A product of two words from the products of their parts, and Barrett's quotient: over any radix, since 2^64 is too long for omega.
 -- Assumes nothing.
 use Prim.Native.Nat.{ℕ, _+_, _-_, _*_, _/_, _%_, _≤_, _<_}
-use native.Mathlib.Nat.{le-of-lt, mod-lt, div-add-mod, mul-div-le, lt-mul-div-succ, mul-le-mul, mul-le-mul-left, mul-le-mul-right, mul-lt-mul-of-pos-right, le-of-mul-le-mul-right, lt-of-mul-lt-mul-right}
+use native.Mathlib.Nat.{le-of-lt, mod-lt, div-add-mod, mul-div-le, lt-mul-div-succ}
+use native.Mathlib.Nat.{mul-le-mul, mul-le-mul-left, mul-le-mul-right, mul-lt-mul-of-pos-right, le-of-mul-le-mul-right, lt-of-mul-lt-mul-right}
 use native.Mathlib.Omega.{arith}
 use mathlib.Core.Path.{_≡_, sym, _∙_, ap}
 use lib.Arith.{digits-div, digits-lt, digits-mod}
@@ -16,20 +17,23 @@ parts-small {a} {b} h l =
     mul-le-mul x y
 
 -- from the products of the parts, with the carries: x out of the low product, m1 and o1 out of the two middle ones
-parts-div : (r a1 a0 b1 b0 x l m1 m0 o1 o0 : ℕ) → a0 * b0 ≡ r * x + l → a1 * b0 + x ≡ r * m1 + m0 → a0 * b1 + m0 ≡ r * o1 + o0 → l < r → o0 < r → (r * a1 + a0) * (r * b1 + b0) / (r * r) ≡ a1 * b1 + m1 + o1
+parts-div : (r a1 a0 b1 b0 x l m1 m0 o1 o0 : ℕ) → a0 * b0 ≡ r * x + l → a1 * b0 + x ≡ r * m1 + m0 → a0 * b1 + m0 ≡ r * o1 + o0 → l < r → o0 < r
+    → (r * a1 + a0) * (r * b1 + b0) / (r * r) ≡ a1 * b1 + m1 + o1
 parts-div r a1 a0 b1 b0 x l m1 m0 o1 o0 low middle other hl ho =
     let whole : (r * a1 + a0) * (r * b1 + b0) ≡ (a1 * b1 + m1 + o1) * (r * r) + (o0 * r + l) =
     omega (arith, ap (λ (z : ℕ). r * z) middle, ap (λ (z : ℕ). r * z) other)
     in
     rw whole (digits-div (a1 * b1 + m1 + o1) (digits-lt ho hl))
 
-pub product-high : (r a b : ℕ) → 0 < r → a * b / (r * r) ≡ a / r * (b / r) + (a / r * (b % r) + a % r * (b % r) / r) / r + (a % r * (b / r) + (a / r * (b % r) + a % r * (b % r) / r) % r) / r
+pub product-high : (r a b : ℕ) → 0 < r → a * b / (r * r) ≡ a / r * (b / r) + (a / r * (b % r) + a % r * (b % r) / r) / r +
+    (a % r * (b / r) + (a / r * (b % r) + a % r * (b % r) / r) % r) / r
 product-high r a b h =
     let low : ℕ = a % r * (b % r) in
     let middle : ℕ = a / r * (b % r) + low / r in
     let other : ℕ = a % r * (b / r) + middle % r in
     let e : a * b ≡ (r * (a / r) + a % r) * (r * (b / r) + b % r) = rw (div-add-mod a r, div-add-mod b r) in
-    rw e (parts-div r (a / r) (a % r) (b / r) (b % r) (low / r) (low % r) (middle / r) (middle % r) (other / r) (other % r) (sym (div-add-mod low r)) (sym (div-add-mod middle r)) (sym (div-add-mod other r)) (mod-lt low h) (mod-lt other h))
+    rw e (parts-div r (a / r) (a % r) (b / r) (b % r) (low / r) (low % r) (middle / r) (middle % r) (other / r) (other % r) (sym (div-add-mod low r))
+    (sym (div-add-mod middle r)) (sym (div-add-mod other r)) (mod-lt low h) (mod-lt other h))
 
 -- ---- the remainder: v is q's reciprocal, h the quotient by it, and r the radix, of which p is one less
 

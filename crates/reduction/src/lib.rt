@@ -1,7 +1,14 @@
 // A number below 2^64 modulo q without a division (Barrett): the quotient is the high half of the product with q's reciprocal, and at
-// most one too small. Nothing is refused: callers give a q below 2^31 and its reciprocal. The contracts are `%` and `/` of whole numbers.
+// most one too small. Nothing is refused: callers give a q below 2^31. The contracts are `%` and `/` of whole numbers.
 ghost use mathlib.Core.Path.{_≡_};
 ghost use Prim.Native.Nat.{_*_, _%_, _/_, _<_};
+ghost use Rattle.reduction.specs.Moduli.{Reciprocal};
+
+// A modulus and its reciprocal, the largest word divided by it.
+pub struct Modulus {
+    pub q: u32,
+    pub reciprocal: u64,
+}
 
 // The parts of a word are its low and its high 32 bits: 2^32.
 const HALF: u64 = 4294967296;
@@ -19,20 +26,23 @@ fn high_half(a: u64, b: u64) -> u64
     a1 * b1 + middle / HALF + other / HALF
 }
 
-// The largest word divided by q.
-pub fn reciprocal(q: u32) -> u64
-    requires { ⌜ 0 < q ⌝ }
-    ensures { λ r. ⌜ r ≡ 18446744073709551615 / q ⌝ }
+pub fn with_reciprocal(q: u32) -> Modulus
+    requires { ⌜ (0 < q) × (q < 2147483648) ⌝ }
+    ensures { λ r. ⌜ (r .q ≡ q) × Reciprocal r ⌝ }
 {
-    18446744073709551615 / (q as u64)
+    Modulus {
+        q: q,
+        reciprocal: 18446744073709551615 / (q as u64),
+    }
 }
 
 // s modulo q.
-pub fn remainder(s: u64, q: u32, reciprocal: u64) -> u32
-    requires { ⌜ (0 < q) × (q < 2147483648) × (reciprocal ≡ 18446744073709551615 / q) ⌝ }
-    ensures { λ r. ⌜ r ≡ s % q ⌝ }
+pub fn remainder(s: u64, m: Modulus) -> u32
+    requires { ⌜ Reciprocal m ⌝ }
+    ensures { λ r. ⌜ r ≡ s % m .q ⌝ }
 {
-    let r = s - high_half(s, reciprocal) * (q as u64);
+    let q = m.q;
+    let r = s - high_half(s, m.reciprocal) * (q as u64);
     let t = r as u32;
     if t < q { t } else { t - q }
 }

@@ -22,7 +22,8 @@ pub linear-cong : (m : ℕ) {a b c d : Element} → ((i : ℕ) → i < m → a i
 unfolding linear
 linear-cong m h g k = sum-cong m (λ i l. ap₂ _*_ (h i l) (sum-cong m (λ j s. ap (λ (x : ℕ). x * sameNumber (i + j) k) (g j s))))
 
-pub linear-cong-modulo : (m : ℕ) {q : ℕ} {a b c d : Element} → ((i : ℕ) → i < m → Cong q (a i) (b i)) → ((i : ℕ) → i < m → Cong q (c i) (d i)) → (k : ℕ) → Cong q (linear m a c k) (linear m b d k)
+pub linear-cong-modulo : (m : ℕ) {q : ℕ} {a b c d : Element} → ((i : ℕ) → i < m → Cong q (a i) (b i)) → ((i : ℕ) → i < m → Cong q (c i) (d i)) → (k : ℕ)
+    → Cong q (linear m a c k) (linear m b d k)
 unfolding linear
 linear-cong-modulo m h g k = cong-sum m (λ i l. cong-mul (h i l) (cong-sum m (λ j s. cong-mul (g j s) cong-refl)))
 
@@ -87,7 +88,8 @@ pub linear-outside : (m : ℕ) (a b : Element) {k : ℕ} → m + m ≤ k → lin
 linear-outside m a b {k} out = linear-pair m a b k ∙ pair-zero m a (λ i l. pair-zero m b (λ j s. sameNumber-other (λ (e : i + j ≡ k). omega arith)))
 
 -- one half times both of the other's
-raised-append : (s h : ℕ) (a b : Element) (k : ℕ) → pair h a (λ i. pair (h + h) b (λ j. sameNumber (s + i + j) k)) ≡ raised s h a b k + raised (s + h) h a (upper h b) k
+raised-append : (s h : ℕ) (a b : Element) (k : ℕ)
+    → pair h a (λ i. pair (h + h) b (λ j. sameNumber (s + i + j) k)) ≡ raised s h a b k + raised (s + h) h a (upper h b) k
 raised-append s h a b k =
     pair-inner h a (λ i _. pair-append h h b (λ j. sameNumber (s + i + j) k))
     ∙ pair-add h a (λ i. pair h b (λ j. sameNumber (s + i + j) k)) (λ i. pair h (upper h b) (λ j. sameNumber (s + i + (h + j)) k))
@@ -96,7 +98,8 @@ raised-append s h a b k =
     places : (i j : ℕ) → s + i + (h + j) ≡ s + h + i + j
     places i j = omega arith
 
-linear-split : (h : ℕ) (a b : Element) (k : ℕ) → linear (h + h) a b k ≡ linear h a b k + (raised h h a (upper h b) k + raised h h (upper h a) b k) + raised (h + h) h (upper h a) (upper h b) k
+linear-split : (h : ℕ) (a b : Element) (k : ℕ)
+    → linear (h + h) a b k ≡ linear h a b k + (raised h h a (upper h b) k + raised h h (upper h a) b k) + raised (h + h) h (upper h a) (upper h b) k
 linear-split h a b k =
     linear-pair (h + h) a b k
     ∙ pair-append h h a (λ i. pair (h + h) b (λ j. sameNumber (i + j) k))
@@ -110,14 +113,21 @@ linear-split h a b k =
 pub linear-first : (h : ℕ) (a b : Element) {k : ℕ} → k < h → linear (h + h) a b k ≡ linear h a b k
 linear-first h a b {k} l =
     linear-split h a b k
-    ∙ omega (arith, raised-below h h a (upper h b) {k = k} l, raised-below h h (upper h a) b {k = k} l, raised-below (h + h) h (upper h a) (upper h b) {k = k} (omega arith))
+    ∙ omega (
+      arith,
+      raised-below h h a (upper h b) {k = k} l,
+      raised-below h h (upper h a) b {k = k} l,
+      raised-below (h + h) h (upper h a) (upper h b) {k = k} (omega arith),
+    )
 
-pub linear-second : (h : ℕ) (a b : Element) {k : ℕ} → k < h → linear (h + h) a b (h + k) ≡ linear h a b (h + k) + (linear h a (upper h b) k + linear h (upper h a) b k)
+pub linear-second : (h : ℕ) (a b : Element) {k : ℕ} → k < h
+    → linear (h + h) a b (h + k) ≡ linear h a b (h + k) + (linear h a (upper h b) k + linear h (upper h a) b k)
 linear-second h a b {k} l =
     linear-split h a b (h + k)
     ∙ omega (arith, raised-at h h a (upper h b) k, raised-at h h (upper h a) b k, raised-below (h + h) h (upper h a) (upper h b) {k = h + k} (omega arith))
 
-pub linear-third : (h : ℕ) (a b : Element) (k : ℕ) → linear (h + h) a b (h + h + k) ≡ (linear h a (upper h b) (h + k) + linear h (upper h a) b (h + k)) + linear h (upper h a) (upper h b) k
+pub linear-third : (h : ℕ) (a b : Element) (k : ℕ)
+    → linear (h + h) a b (h + h + k) ≡ (linear h a (upper h b) (h + k) + linear h (upper h a) b (h + k)) + linear h (upper h a) (upper h b) k
 linear-third h a b k =
     linear-split h a b (h + h + k)
     ∙ omega (arith, none, first, second, raised-at (h + h) h (upper h a) (upper h b) k)
@@ -152,8 +162,10 @@ cong-middle {q} {s} {m} x z pos h =
     (cong-trans (cong-of-eq order)
     (cong-trans (cong-add (cong-refl {x = m}) (cong-add (cong-taken q x pos) (cong-taken q z pos))) (cong-of-eq (add-zero m))))
 
-pub linear-middle : (h : ℕ) {q : ℕ} (a b : Element) {c d : Element} → 0 < q → ((i : ℕ) → i < h → c i ≡ (upper h a i + a i) % q) → ((i : ℕ) → i < h → d i ≡ (upper h b i + b i) % q) → (k : ℕ)
-    → Cong q ((linear h c d k % q + (q - linear h a b k % q)) % q + (q - linear h (upper h a) (upper h b) k % q)) (linear h a (upper h b) k + linear h (upper h a) b k)
+pub linear-middle : (h : ℕ) {q : ℕ} (a b : Element) {c d : Element} → 0 < q → ((i : ℕ) → i < h → c i ≡ (upper h a i + a i) % q)
+    → ((i : ℕ) → i < h → d i ≡ (upper h b i + b i) % q) → (k : ℕ)
+    → Cong q ((linear h c d k % q + (q - linear h a b k % q)) % q + (q - linear h (upper h a) (upper h b) k % q))
+    (linear h a (upper h b) k + linear h (upper h a) b k)
 linear-middle h {q} a b {c} {d} pos f g k =
     cong-middle (linear h a b k) (linear h (upper h a) (upper h b) k) pos
     (cong-trans (cong-mod q (linear h c d k)) (cong-trans sums (cong-of-eq (linear-add-both h (upper h a) a (upper h b) b k ∙ omega arith))))

@@ -1,16 +1,19 @@
 -- What stands where after a list was written over the work words: the list inside, the old words before and after it.
--- A loop that writes one word a turn goes by `Writing`.
+--
+--   WritingWords     how far a loop that writes one word a turn has come
+--   Wrote            what a list written over the words leaves at each place
 -- Assumes nothing.
-use Prim.Native.Nat.{ℕ, suc, _+_, _-_, _≤_, _<_}
-use native.Mathlib.Nat.{le-of-lt, add-zero}
+use Prim.Native.Nat.{ℕ, suc, _+_, _-_, _≤_, _<_, zero-le}
+use native.Mathlib.Nat.{add-zero}
 use native.Mathlib.Numerals.{add-one}
 use native.Mathlib.Omega.{arith}
-use mathlib.Core.Path.{_≡_, refl, sym, _∙_, ap, subst}
+use mathlib.Core.Path.{_≡_, refl, sym, _∙_, ap, ap₂, subst}
 use mathlib.Core.Logic.{⊎-elim}
 use mathlib.Core.List.{List, [], _∷_, _++_, append-assoc}
 use lib.ListN.{length, getD, take, drop, set, length-append, length-set, length-take, length-drop, take-append-drop, List·getD-append}
 use lib.Seq.{drop-cons, set-at, take-at, drop-at, getD-append-add, getD-take, getD-drop, length-take-le}
 use Rattle.definitions.specs.Sequences.{tabulate}
+use Rattle.definitions.specs.Ring.{InRing}
 use Rattle.definitions.proofs.Sums.{length-tabulate, getD-tabulate}
 use Rattle.definitions.proofs.Filling.{tabulate-snoc}
 use Rattle.ring.specs.Work.{part, written, Apart}
@@ -46,16 +49,32 @@ getD-written-after at new old {j} h l =
     ∙ getD-drop (at + length new) old m 0
     ∙ ap (λ (i : ℕ). getD old i 0) f
 
--- ---- a loop that writes one word a turn: after k turns `new` is `old` with f's first k values written
-pub record Writing (at k : ℕ) (f : ℕ → ℕ) (old new : List ℕ) : Type 0 where
+pub length-written-tabulate : (at k : ℕ) (f : ℕ → ℕ) (old : List ℕ) → at + k ≤ length old → length (written at (tabulate k f) old) ≡ length old
+length-written-tabulate at k f old h = length-written at (tabulate k f) old (subst (λ (m : ℕ). at + m ≤ length old) (sym (length-tabulate k f)) h)
+
+-- a part that was not written
+pub part-apart : (at from j n : ℕ) (f : ℕ → ℕ) (old : List ℕ) {k : ℕ} → j ≤ n → at + n ≤ length old → Apart at from n → k < n
+    → part (written at (tabulate j f) old) from k ≡ part old from k
+part-apart at from j n f old {k} g h apart l =
+    let e = length-tabulate j f in
+    ⊎-elim
+    (λ (s : at + n ≤ from). getD-written-after at (tabulate j f) old (omega arith) (omega arith))
+    (λ (s : from + n ≤ at). getD-written-before at (tabulate j f) old (omega arith) (omega arith))
+    apart
+
+-- ---- a loop that writes one word a turn: after k of n turns `new` is `old` with f's first k values written
+pub record WritingWords (at n : ℕ) (f : ℕ → ℕ) (old : List ℕ) (k : ℕ) (new : List ℕ) : Type 0 where
+  pub turns : k ≤ n
+  pub room : at + n ≤ length old
   pub as-long : length new ≡ length old
   pub same : new ≡ written at (tabulate k f) old
 
-pub writing-none : (at : ℕ) (f : ℕ → ℕ) (old : List ℕ) → Writing at 0 f old old
+pub writing-none : {at n : ℕ} {f : ℕ → ℕ} {old : List ℕ} → at + n ≤ length old → WritingWords at n f old 0 old
 unfolding written tabulate
-writing-none at f old = record { as-long = refl; same = rw (add-zero at) (sym (take-append-drop at old)) }
+writing-none {at} {old = old} h = record { turns = zero-le; room = h; as-long = refl; same = rw (add-zero at) (sym (take-append-drop at old)) }
 
-written-more : (at k : ℕ) (f : ℕ → ℕ) (old : List ℕ) {j : ℕ} → j ≡ at + k → j < length old → set (written at (tabulate k f) old) j (f k) ≡ written at (tabulate (k + 1) f) old
+written-more : (at k : ℕ) (f : ℕ → ℕ) (old : List ℕ) {j : ℕ} → j ≡ at + k → j < length old
+    → set (written at (tabulate k f) old) j (f k) ≡ written at (tabulate (k + 1) f) old
 unfolding written
 written-more at k f old {j} e l =
     let head : List ℕ = take at old ++ tabulate k f in
@@ -65,28 +84,53 @@ written-more at k f old {j} e l =
     (set-at head (getD old j 0) (drop (suc j) old) (f k) j place
     ∙ simp append-assoc (ap (λ (m : ℕ). take at old ++ (tabulate k f ++ f k ∷ drop m old)) next))
 
-pub writing-more : {at k : ℕ} {f : ℕ → ℕ} {old new : List ℕ} {j v : ℕ} → Writing at k f old new → j ≡ at + k → j < length old → v ≡ f k → Writing at (k + 1) f old (set new j v)
-writing-more {at} {k} {f} {old} {new} {j} {v} w e l h =
-    record { as-long = length-set new j v ∙ w .as-long; same = rw (w .same, h) (written-more at k f old e l) }
+module _ {at n : ℕ} {f : ℕ → ℕ} {old : List ℕ} {k : ℕ} {new : List ℕ} (w : WritingWords at n f old k new) where
+  pub writing-more : {j v : ℕ} → j ≡ at + k → k < n → v ≡ f k → WritingWords at n f old (k + 1) (set new j v)
+  writing-more {j} {v} e l h =
+      record {
+        turns = omega arith;
+        room = w .room;
+        as-long = length-set new j v ∙ w .as-long;
+        same = rw (w .same, h) (written-more at k f old e (omega (arith, w .room)));
+      }
 
--- a word that the loop has not come to
-pub writing-ahead : {at k : ℕ} {f : ℕ → ℕ} {old new : List ℕ} (j : ℕ) → Writing at k f old new → at ≤ length old → at + k ≤ j → getD new j 0 ≡ getD old j 0
-writing-ahead {at} {k} {f} {old} j w h l =
-    ap (λ (x : List ℕ). getD x j 0) (w .same)
-    ∙ getD-written-after at (tabulate k f) old h (subst (λ (m : ℕ). at + m ≤ j) (sym (length-tabulate k f)) l)
+  -- the word that the next turn writes is as it was
+  pub writing-own : part new at k ≡ part old at k
+  writing-own =
+      ap (λ (x : List ℕ). part x at k) (w .same)
+      ∙ getD-written-after at (tabulate k f) old (omega (arith, w .room)) (omega (arith, length-tabulate k f))
 
-pub writing-all : {at k n : ℕ} {f : ℕ → ℕ} {old new : List ℕ} → Writing at k f old new → k ≡ n → new ≡ written at (tabulate n f) old
-writing-all {at} {k} {n} {f} {old} w e = w .same ∙ ap (λ (m : ℕ). written at (tabulate m f) old) e
+  -- and so is every word of a part apart from that which is written
+  pub writing-apart : (from : ℕ) → Apart at from n → {j : ℕ} → j < n → part new from j ≡ part old from j
+  writing-apart from apart {j} l = ap (λ (x : List ℕ). part x from j) (w .same) ∙ part-apart at from k n f old (w .turns) (w .room) apart l
 
-pub length-written-tabulate : (at k : ℕ) (f : ℕ → ℕ) (old : List ℕ) → at + k ≤ length old → length (written at (tabulate k f) old) ≡ length old
-length-written-tabulate at k f old h = length-written at (tabulate k f) old (subst (λ (m : ℕ). at + m ≤ length old) (sym (length-tabulate k f)) h)
+  pub writing-own-ring : {q : ℕ} → InRing q n (part old at) → k < n → part new at k < q
+  writing-own-ring ring l = rw writing-own (ring k l)
+
+  pub writing-apart-ring : {q : ℕ} (from : ℕ) → Apart at from n → InRing q n (part old from) → {j : ℕ} → j < n → part new from j < q
+  writing-apart-ring from apart ring {j} l = rw (writing-apart from apart l) (ring j l)
+
+  pub writing-all : n ≤ k → new ≡ written at (tabulate n f) old
+  writing-all l =
+      let e : k ≡ n = omega (arith, w .turns) in
+      w .same ∙ ap (λ (m : ℕ). written at (tabulate m f) old) e
+
+-- a turn that writes g of its place and of the word that stands there
+pub writing-one : (g : ℕ → ℕ → ℕ) {at n k : ℕ} {old new : List ℕ} {v : ℕ} → WritingWords at n (λ j. g j (part old at j)) old k new → k < n
+    → v ≡ g k (part new at k) → WritingWords at n (λ j. g j (part old at j)) old (k + 1) (set new (at + k) v)
+writing-one g {k = k} w l e = writing-more w refl l (e ∙ ap (g k) (writing-own w))
+
+-- a turn that writes g of that word and of the word at the same place of another part
+pub writing-both : (g : ℕ → ℕ → ℕ) {at n k : ℕ} (from : ℕ) {old new : List ℕ} {v : ℕ} → Apart at from n
+    → WritingWords at n (λ j. g (part old at j) (part old from j)) old k new → k < n
+    → v ≡ g (part new at k) (part new from k) → WritingWords at n (λ j. g (part old at j) (part old from j)) old (k + 1) (set new (at + k) v)
+writing-both g from apart w l e = writing-more w refl l (e ∙ ap₂ g (writing-own w) (writing-apart w from apart l))
 
 -- ---- the element at an offset
 pub part-written : (at n : ℕ) (f : ℕ → ℕ) (old : List ℕ) {k : ℕ} → at ≤ length old → k < n → part (written at (tabulate n f) old) at k ≡ f k
 part-written at n f old {k} h l =
     getD-written at (tabulate n f) old h (subst (λ (m : ℕ). k < m) (sym (length-tabulate n f)) l) ∙ getD-tabulate n f 0 l
 
--- a part that was not written
 -- the words from an offset on, after they were written
 pub written-part : (at n : ℕ) (f : ℕ → ℕ) (old : List ℕ) → at ≤ length old → take (at + n - at) (drop at (written at (tabulate n f) old)) ≡ tabulate n f
 unfolding written
@@ -95,24 +139,30 @@ written-part at n f old h =
     rw (whole, drop-at (take at old) (tabulate n f ++ drop (at + length (tabulate n f)) old) at (length-take-le at old h))
     (take-at (tabulate n f) _ n (length-tabulate n f))
 
-pub part-apart : (at from j n : ℕ) (f : ℕ → ℕ) (old : List ℕ) {k : ℕ} → j ≤ n → at + n ≤ length old → Apart at from n → k < n → part (written at (tabulate j f) old) from k ≡ part old from k
-part-apart at from j n f old {k} g h apart l =
-    let e = length-tabulate j f in
-    ⊎-elim
-    (λ (s : at + n ≤ from). getD-written-after at (tabulate j f) old (omega arith) (omega arith))
-    (λ (s : from + n ≤ at). getD-written-before at (tabulate j f) old (omega arith) (omega arith))
-    apart
-
-pub writing-apart : {at k : ℕ} {f : ℕ → ℕ} {old new : List ℕ} (from n : ℕ) → Writing at k f old new → at + n ≤ length old → Apart at from n → k < n → part new from k ≡ part old from k
-writing-apart {at} {k} {f} {old} from n w h apart l = ap (λ (x : List ℕ). part x from k) (w .same) ∙ part-apart at from k n f old (le-of-lt l) h apart l
-
 -- what is written over what was written
-pub written-written : (at : ℕ) (new mid old : List ℕ) → length new ≡ length mid → at + length mid ≤ length old → written at new (written at mid old) ≡ written at new old
+pub written-written : (at : ℕ) (new mid old : List ℕ) → length new ≡ length mid → at + length mid ≤ length old
+    → written at new (written at mid old) ≡ written at new old
 unfolding written
 written-written at new mid old e h =
     let front : length (take at old) ≡ at = length-take-le at old (omega arith) in
     let head : List ℕ = take at old ++ mid in
     let place : length head ≡ at + length new = length-append (take at old) mid ∙ omega arith in
     let rest : List ℕ = drop (at + length mid) old in
-    let tail : drop (at + length new) (take at old ++ (mid ++ rest)) ≡ rest = rw (← append-assoc (take at old) mid rest) (drop-at head rest (at + length new) place) in
+    let tail : drop (at + length new) (take at old ++ (mid ++ rest)) ≡ rest = rw (← append-assoc (take at old) mid rest)
+    (drop-at head rest (at + length new) place) in
     rw (take-at (take at old) (mid ++ rest) at front, tail, e)
+
+-- ---- what a list written over the words leaves at each place
+pub record Wrote (at n : ℕ) (f : ℕ → ℕ) (old new : List ℕ) : Type 0 where
+  pub as-long : length new ≡ length old
+  pub inside : (k : ℕ) → k < n → part new at k ≡ f k
+  pub before : (k : ℕ) → k < at → getD new k 0 ≡ getD old k 0
+  pub after : (k : ℕ) → at + n ≤ k → getD new k 0 ≡ getD old k 0
+
+pub wrote : {at n : ℕ} {f : ℕ → ℕ} {old new : List ℕ} → at + n ≤ length old → new ≡ written at (tabulate n f) old → Wrote at n f old new
+wrote {at} {n} {f} {old} {new} fit e = record {
+  as-long = ap length e ∙ length-written-tabulate at n f old fit;
+  inside = λ k l. ap (λ (x : List ℕ). part x at k) e ∙ part-written at n f old (omega arith) l;
+  before = λ k l. ap (λ (x : List ℕ). getD x k 0) e ∙ getD-written-before at (tabulate n f) old (omega arith) l;
+  after = λ k l. ap (λ (x : List ℕ). getD x k 0) e ∙ getD-written-after at (tabulate n f) old (omega arith) (omega (arith, length-tabulate n f));
+}

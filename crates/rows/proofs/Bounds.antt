@@ -18,20 +18,20 @@ pub eighty-small : {m p : ℕ} → m ≤ 80 → p ≤ 230584300867682304 → m *
 eighty-small h l = let s = mul-le-mul h l in omega arith
 
 -- ---- a running sum of cut numbers: after i rows, four at a time, each half is at most what i / 4 halves can be
-pub record Summed (i total low high : ℕ) : Type 0 where
+pub record CutSum (i total low high : ℕ) : Type 0 where
   pub whole : low + 4398046511104 * high ≡ total
   pub low-bound : 4 * low ≤ i * 4398046511104
   pub high-bound : 4 * high ≤ i * 4194304
 
-pub summed-none : Summed 0 0 0 0
-summed-none = record { whole = omega arith; low-bound = omega arith; high-bound = omega arith }
+pub cut-sum-none : CutSum 0 0 0 0
+cut-sum-none = record { whole = omega arith; low-bound = omega arith; high-bound = omega arith }
 
-pub summed-more : {i total low high : ℕ} {s t : ℕ} → Summed i total low high → s < 18446744073709551616 → t < 18446744073709551616
-    → Summed (i + 8) (total + (s + t)) (low + (s % 4398046511104 + t % 4398046511104)) (high + (s / 4398046511104 + t / 4398046511104))
-summed-more h l g = record { whole = omega arith; low-bound = omega arith; high-bound = omega arith }
+pub cut-sum-more : {i total low high : ℕ} {s t : ℕ} → CutSum i total low high → s < 18446744073709551616 → t < 18446744073709551616
+    → CutSum (i + 8) (total + (s + t)) (low + (s % 4398046511104 + t % 4398046511104)) (high + (s / 4398046511104 + t / 4398046511104))
+cut-sum-more h l g = record { whole = omega arith; low-bound = omega arith; high-bound = omega arith }
 
-pub summed-halves : {i total low high : ℕ} → Summed i total low high → i < 88 → Halves total low high
-summed-halves h l = record { whole = h .whole; low-small = omega arith; high-small = omega arith }
+pub cut-sum-halves : {i total low high : ℕ} → CutSum i total low high → i < 88 → Halves total low high
+cut-sum-halves h l = record { whole = h .whole; low-small = omega arith; high-small = omega arith }
 
 -- what is put together again fits a word
 module _ {high fold : ℕ} (h : high < 134217728) (l : fold < 2147483648) where

@@ -14,14 +14,15 @@ use lib.Seq.{take-all, drop-drop}
 use borrow.Rule.Slice.PartMut.{midOf, putMid}
 use Rattle.definitions.specs.Sequences.{sum, tabulate, sameNumber}
 use Rattle.definitions.specs.Ring.{Element, InRing, elementOf}
-use Rattle.definitions.proofs.Sums.{sameNumber-self, sameNumber-other, sum-cong, sum-append, sum-zero, sum-le, sum-const, sum-pick, sum-pick-outside, length-tabulate, tabulate-cong}
+use Rattle.definitions.proofs.Sums.{sameNumber-self, sameNumber-other, sum-cong, sum-append, sum-zero}
+use Rattle.definitions.proofs.Sums.{sum-le, sum-const, sum-pick, sum-pick-outside, length-tabulate, tabulate-cong}
 use Rattle.ring.specs.Work.{part, written}
 use Rattle.ring.specs.Linear.{linear}
 use Rattle.ring.proofs.Linear.{linear-cong}
 use Rattle.ring.proofs.Work.{part-written, getD-written-before, getD-written-after}
 use Rattle.rows.specs.declared.Factors.{Factors}
 use Rattle.rows.specs.Rows.{padded, shifted, rowTerm, fourRows, eightRows, factorsFrom, rowSum, Surrounded, Operands, Added, Halves}
-use Rattle.rows.proofs.Bounds.{product-small, eighty-small, Summed, summed-none, summed-more, summed-halves}
+use Rattle.rows.proofs.Bounds.{product-small, eighty-small, CutSum, cut-sum-none, cut-sum-more, cut-sum-halves}
 
 -- ---- a polynomial followed by zeros
 padded-inside : (m : ℕ) (a : Element) {i : ℕ} → i < m → padded m a i ≡ a i
@@ -38,7 +39,11 @@ padded-below m a h l i =
 
 padded-pick : (m : ℕ) (b : Element) (p : ℕ) → sum m (λ j. b j * sameNumber j p) ≡ padded m b p
 padded-pick m b p =
-    elim (decLt p m) [ yes s ↦ sum-pick m b s ∙ sym (padded-inside m b s) | no g ↦ sum-pick-outside m b (omega arith) ∙ sym (padded-outside m b {i = p} (omega arith)) ]
+    elim (decLt p m) [
+      | yes s ↦ sum-pick m b s ∙ sym (padded-inside m b s)
+      | no g ↦ sum-pick-outside m b (omega arith)
+          ∙ sym (padded-outside m b {i = p} (omega arith))
+    ]
 
 -- ---- the same, shifted
 shifted-inside : (m : ℕ) (b : Element) {i k : ℕ} → i ≤ k → shifted m b i k ≡ padded m b (k - i)
@@ -117,7 +122,8 @@ unfolding sum fourRows
 sum-eight-rows m a b i k = sum-append i 8 (rowTerm m a b k) ∙ simp (add-zero, zero-add, add-assoc)
 
 -- where all sums fit a word
-pub linear-small : (m q top : ℕ) (a b : Element) → m ≤ 80 → q * top ≤ 230584300867682304 → InRing q m a → InRing top m b → (k : ℕ) → linear m a b k < 18446744073709551616
+pub linear-small : (m q top : ℕ) (a b : Element) → m ≤ 80 → q * top ≤ 230584300867682304 → InRing q m a → InRing top m b → (k : ℕ)
+    → linear m a b k < 18446744073709551616
 unfolding rowTerm
 linear-small m q top a b few l h g k =
     let bound : (i : ℕ) → i < m → rowTerm m a b k i ≤ q * top =
@@ -134,7 +140,13 @@ row-term-none m a b i k e = rw e (mul-zero (padded m a i))
 four-rows-none : (m : ℕ) (a b : Element) (i k : ℕ) → ((j : ℕ) → i ≤ j → j ≤ i + 3 → rowTerm m a b k j ≡ 0) → fourRows m a b i k ≡ 0
 unfolding fourRows
 four-rows-none m a b i k none =
-    omega (arith, none i (omega arith) (omega arith), none (i + 1) (omega arith) (omega arith), none (i + 2) (omega arith) (omega arith), none (i + 3) (omega arith) (omega arith))
+    omega (
+      arith,
+      none i (omega arith) (omega arith),
+      none (i + 1) (omega arith) (omega arith),
+      none (i + 2) (omega arith) (omega arith),
+      none (i + 3) (omega arith) (omega arith),
+    )
 
 four-rows-before : (m : ℕ) (a b : Element) {i k : ℕ} → k < i → fourRows m a b i k ≡ 0
 four-rows-before m a b {i} {k} l = four-rows-none m a b i k (λ j s u. row-term-none m a b j k (shifted-before m b (omega arith)))
@@ -154,7 +166,8 @@ four-rows-small m a b h g i k =
     omega (arith, one i, one (i + 1), one (i + 2), one (i + 3))
 
 -- what stands at each place of a list that was written over another
-written-at : (at n : ℕ) (f g : ℕ → ℕ) (old : List ℕ) → at + n ≤ length old → ((k : ℕ) → k < at → getD old k 0 ≡ g k) → ((k : ℕ) → k < n → f k ≡ g (at + k)) → ((k : ℕ) → at + n ≤ k → getD old k 0 ≡ g k) →
+written-at : (at n : ℕ) (f g : ℕ → ℕ) (old : List ℕ) → at + n ≤ length old → ((k : ℕ) → k < at → getD old k 0 ≡ g k) → ((k : ℕ) → k < n → f k ≡ g (at + k))
+    → ((k : ℕ) → at + n ≤ k → getD old k 0 ≡ g k) →
     (k : ℕ) → getD (written at (tabulate n f) old) k 0 ≡ g k
 written-at at n f g old h front inside rest k =
     let long = length-tabulate n f in
@@ -177,7 +190,8 @@ reach-added : (f : ℕ → ℕ) (i n : ℕ) (old : List ℕ) {new : List ℕ} �
     Added f old new
 reach-added f i n old h before after e k =
     let nothing : (j : ℕ) → f j ≡ 0 → getD old j 0 ≡ getD old j 0 + f j = λ j x. omega arith in
-    rw e (written-at i n (λ j. part old i j + f (i + j)) (λ j. getD old j 0 + f j) old h (λ j l. nothing j (before j l)) (λ j l. refl) (λ j l. nothing j (after j l)) k)
+    rw e (written-at i n (λ j. part old i j + f (i + j)) (λ j. getD old j 0 + f j) old h (λ j l. nothing j (before j l)) (λ j l. refl)
+    (λ j l. nothing j (after j l)) k)
 
 pub rows-added : (g : ℕ → ℕ) → g 0 ≡ 0 → (m : ℕ) (a b : Element) (i : ℕ) (old : List ℕ) {new : List ℕ} → i + (m + 7) ≤ length old →
     new ≡ written i (tabulate (m + 7) (λ k. part old i k + eightRows g m a b i (i + k))) old →
@@ -196,19 +210,22 @@ last-rows-added m a b i old few h e k =
     ∙ omega (arith, four-rows-past m a b k few)
 
 -- ---- b after seven zeros and before others
-four-rows-sum : (m : ℕ) (a b : Element) (row : List ℕ) → Surrounded m b row → (i h p : ℕ) → i + h ≡ p + 4 → rowSum (factorsFrom m a i) row h ≡ fourRows m a b i p
+four-rows-sum : (m : ℕ) (a b : Element) (row : List ℕ) → Surrounded m b row → (i h p : ℕ) → i + h ≡ p + 4
+    → rowSum (factorsFrom m a i) row h ≡ fourRows m a b i p
 unfolding rowSum factorsFrom fourRows rowTerm
 four-rows-sum m a b row around i h p e =
     let at : (j r : ℕ) → r + j ≡ p + 7 → getD row j 0 ≡ shifted m b r p = λ j r d. around j ∙ shifted-along m b 7 j r p (omega arith) in
     rw (at (h + 3) i (omega arith), at (h + 2) (i + 1) (omega arith), at (h + 1) (i + 2) (omega arith), at h (i + 3) (omega arith))
 
-factors-below : (m : ℕ) (a : Element) {q : ℕ} → InRing q m a → 0 < q → (i : ℕ) → (factorsFrom m a i .a0 < q) × (factorsFrom m a i .a1 < q) × (factorsFrom m a i .a2 < q) × (factorsFrom m a i .a3 < q)
+factors-below : (m : ℕ) (a : Element) {q : ℕ} → InRing q m a → 0 < q → (i : ℕ) → (factorsFrom m a i .a0 < q) × (factorsFrom m a i .a1 < q)
+    × (factorsFrom m a i .a2 < q) × (factorsFrom m a i .a3 < q)
 unfolding factorsFrom
 factors-below m a h l i = (padded-below m a h l i, padded-below m a h l (i + 1), padded-below m a h l (i + 2), padded-below m a h l (i + 3))
 
 -- what `row_sum` asks, and what it then sums
 module _ {m at : ℕ} {words row : List ℕ} (o : Operands m words at row) (i h : ℕ) {f : Factors} (e : f ≡ factorsFrom m (part words at) i) where
-  pub row-sum-asked : h + 4 ≤ m + 14 → ((f .a0 < 2147483648) × (f .a1 < 2147483648) × (f .a2 < 2147483648) × (f .a3 < 2147483648)) × ((h + 4 ≤ length row) × ((j : ℕ) → getD row j 0 < 2147483648))
+  pub row-sum-asked : h + 4 ≤ m + 14 → ((f .a0 < 2147483648) × (f .a1 < 2147483648) × (f .a2 < 2147483648) × (f .a3 < 2147483648))
+      × ((h + 4 ≤ length row) × ((j : ℕ) → getD row j 0 < 2147483648))
   row-sum-asked l = (
     rw e (factors-below m (part words at) (o .first-small) (lit< tt) i),
     (omega (arith, o .room), λ j. rw (o .surrounded j) (shifted-below m (part row 7) (o .second-small) (lit< tt) 7 j)),
@@ -225,7 +242,8 @@ module _ (m : ℕ) (b : Element) (row : List ℕ) (around : Surrounded m b row) 
   row-inside : (k : ℕ) → k < m → part row 7 k ≡ b k
   row-inside k l = around (7 + k) ∙ shifted-by m b 7 l
 
-  pub row-operands : {at q top : ℕ} {words : List ℕ} → m ≤ 80 → at + m ≤ length words → m + 14 ≤ length row → q ≤ 2147483648 → top ≤ 2147483648 → InRing q m (part words at) → InRing top m b → Operands m words at row
+  pub row-operands : {at q top : ℕ} {words : List ℕ} → m ≤ 80 → at + m ≤ length words → m + 14 ≤ length row → q ≤ 2147483648 → top ≤ 2147483648
+      → InRing q m (part words at) → InRing top m b → Operands m words at row
   row-operands few within room x y h g =
       record {
         few = few;
@@ -254,53 +272,69 @@ surrounded-written m b few e j =
 
 -- ---- the rows so far, at every place: the loop over the rows
 pub record Rows (m : ℕ) (a b : Element) (i : ℕ) (low : List ℕ) : Type 0 where
+  pub turns : i < m + 8
+  pub long : length low ≡ 168
   pub sums : (k : ℕ) → getD low k 0 ≡ sum i (rowTerm m a b k)
+
+zeros-long : {low : List ℕ} → low ≡ replicate 168 0 → length low ≡ 168
+zeros-long e = ap length e ∙ length-replicate {A = ℕ} 168 0
 
 pub rows-none : {m : ℕ} {a b : Element} {low : List ℕ} → low ≡ replicate 168 0 → Rows m a b 0 low
 unfolding sum
-rows-none e = record { sums = λ k. rw e (zeros-at 168 k) }
+rows-none e = record { turns = omega arith; long = zeros-long e; sums = λ k. rw e (zeros-at 168 k) }
 
-pub rows-more : {m : ℕ} {a b : Element} {i : ℕ} {low new : List ℕ} → Rows m a b i low → Added (eightRows (λ s. s) m a b i) low new → Rows m a b (i + 8) new
-rows-more {m} {a} {b} {i} r d = record { sums = λ k. d k ∙ rw (r .sums k) (sym (sum-eight-rows m a b i k)) }
+module _ {m : ℕ} {a b : Element} {i : ℕ} {low : List ℕ} (r : Rows m a b i low) where
+  pub rows-more : {new : List ℕ} → i < m → length new ≡ length low → Added (eightRows (λ s. s) m a b i) low new → Rows m a b (i + 8) new
+  rows-more l e d = record { turns = omega arith; long = e ∙ r .long; sums = λ k. d k ∙ rw (r .sums k) (sym (sum-eight-rows m a b i k)) }
 
--- where the product fits a word, so do eight rows more
-pub rows-fit : {m : ℕ} {a b : Element} {i : ℕ} {low : List ℕ} → Rows m a b i low → (k : ℕ) → linear m a b k < 18446744073709551616 → getD low k 0 + eightRows (λ s. s) m a b i k < 18446744073709551616
-rows-fit {m} {a} {b} {i} r k l = omega (arith, r .sums k, sum-eight-rows m a b i k, sum-rows-le m a b k (i + 8))
+  -- where the product fits a word, so do eight rows more
+  pub rows-fit : (k : ℕ) → linear m a b k < 18446744073709551616 → getD low k 0 + eightRows (λ s. s) m a b i k < 18446744073709551616
+  rows-fit k l = omega (arith, r .sums k, sum-eight-rows m a b i k, sum-rows-le m a b k (i + 8))
 
-pub rows-all : {m : ℕ} {a b : Element} {i : ℕ} {low : List ℕ} → Rows m a b i low → m ≤ i → (k : ℕ) → getD low k 0 ≡ linear m a b k
-rows-all {m} {a} {b} r h k = r .sums k ∙ sum-rows-past m a b k h
+  pub rows-all : m ≤ i → (k : ℕ) → getD low k 0 ≡ linear m a b k
+  rows-all h k = r .sums k ∙ sum-rows-past m a b k h
 
 -- ---- the same of sums that are cut
 pub record CutRows (m : ℕ) (a b : Element) (i : ℕ) (low high : List ℕ) : Type 0 where
-  pub sums : (k : ℕ) → Summed i (sum i (rowTerm m a b k)) (getD low k 0) (getD high k 0)
+  pub turns : i < m + 8
+  pub long : (length low ≡ 168) × (length high ≡ 168)
+  pub sums : (k : ℕ) → CutSum i (sum i (rowTerm m a b k)) (getD low k 0) (getD high k 0)
 
 pub cut-rows-none : {m : ℕ} {a b : Element} {low high : List ℕ} → low ≡ replicate 168 0 → high ≡ replicate 168 0 → CutRows m a b 0 low high
 unfolding sum
-cut-rows-none d e = record { sums = λ k. rw (d, e, zeros-at 168 k) summed-none }
+cut-rows-none d e = record { turns = omega arith; long = (zeros-long d, zeros-long e); sums = λ k. rw (d, e, zeros-at 168 k) cut-sum-none }
 
-pub cut-rows-more : {m : ℕ} {a b : Element} {i : ℕ} {low high low′ high′ : List ℕ} → CutRows m a b i low high → InRing 2147483648 m a → InRing 2147483648 m b →
-    Added (eightRows (λ s. s % 4398046511104) m a b i) low low′ → Added (eightRows (λ s. s / 4398046511104) m a b i) high high′ →
-    CutRows m a b (i + 8) low′ high′
-cut-rows-more {m} {a} {b} {i} r h g d e =
-    record {
-      sums =
-          λ k.
-          rw (d k, e k, sum-eight-rows m a b i k)
-          (summed-more (r .sums k) (four-rows-small m a b h g i k) (four-rows-small m a b h g (i + 4) k));
-    }
+module _ {m : ℕ} {a b : Element} {i : ℕ} {low high : List ℕ} (r : CutRows m a b i low high) where
+  pub cut-rows-more : {low′ high′ : List ℕ} → i < m → (length low′ ≡ length low) × (length high′ ≡ length high) → InRing 2147483648 m a → InRing 2147483648 m b
+      → Added (eightRows (λ s. s % 4398046511104) m a b i) low low′ → Added (eightRows (λ s. s / 4398046511104) m a b i) high high′
+      → CutRows m a b (i + 8) low′ high′
+  cut-rows-more l e h g d f =
+      record {
+        turns = omega arith;
+        long = (e .0 ∙ r .long .0, e .1 ∙ r .long .1);
+        sums =
+            λ k.
+            rw (d k, f k, sum-eight-rows m a b i k)
+            (cut-sum-more (r .sums k) (four-rows-small m a b h g i k) (four-rows-small m a b h g (i + 4) k));
+      }
 
-pub cut-rows-all : {m : ℕ} {a b : Element} {i : ℕ} {low high : List ℕ} → CutRows m a b i low high → m ≤ i → i < 88 → (k : ℕ) → Halves (linear m a b k) (getD low k 0) (getD high k 0)
-cut-rows-all {m} {a} {b} r h l k = rw (← sum-rows-past m a b k h) (summed-halves (r .sums k) l)
+  pub cut-rows-halves : m ≤ 80 → (k : ℕ) → Halves (sum i (rowTerm m a b k)) (getD low k 0) (getD high k 0)
+  cut-rows-halves few k = cut-sum-halves (r .sums k) (omega (arith, r .turns))
+
+  pub cut-rows-all : m ≤ 80 → m ≤ i → (k : ℕ) → Halves (linear m a b k) (getD low k 0) (getD high k 0)
+  cut-rows-all few h k = rw (← sum-rows-past m a b k h) (cut-rows-halves few k)
 
 -- ---- equal sums, reduced, at the front of the words from a place on, which were lent and given back
-lent-written : (at : ℕ) (new old : List ℕ) → at + length new ≤ length old → putMid at (length old - at) old (written 0 new (midOf at (length old - at) old)) ≡ written at new old
+lent-written : (at : ℕ) (new old : List ℕ) → at + length new ≤ length old
+    → putMid at (length old - at) old (written 0 new (midOf at (length old - at) old)) ≡ written at new old
 unfolding written
 lent-written at new old h =
     let all : take (length old - at) (drop at old) ≡ drop at old = take-all (length old - at) (drop at old) (omega (arith, length-drop at old)) in
     let none : drop (length old - at) (drop at old) ≡ [] = drop-of-length-le (drop at old) {i = length old - at} (omega (arith, length-drop at old)) in
     rw (all, none) (simp (append-nil, zero-add, drop-drop))
 
-pub reduced-lent : (at n q : ℕ) {f g : ℕ → ℕ} (old : List ℕ) {last : List ℕ} → at + n ≤ length old → ((k : ℕ) → f k ≡ g k) → last ≡ written 0 (tabulate n (λ k. f k % q)) (midOf at (length old - at) old) →
+pub reduced-lent : (at n q : ℕ) {f g : ℕ → ℕ} (old : List ℕ) {last : List ℕ} → at + n ≤ length old → ((k : ℕ) → f k ≡ g k)
+    → last ≡ written 0 (tabulate n (λ k. f k % q)) (midOf at (length old - at) old) →
     putMid at (length old - at) old last ≡ written at (tabulate n (λ k. g k % q)) old
 reduced-lent at n q {f} {g} old h same e =
     rw e (lent-written at (tabulate n (λ k. f k % q)) old (omega (arith, length-tabulate n (λ k. f k % q))))

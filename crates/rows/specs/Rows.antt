@@ -11,15 +11,19 @@
 --   Operands         two polynomials of at most 80 coefficients below 2^31 stand in the words, from a place on, and in a row
 --   Added            a list with f k added at each place k
 --   Halves           a number cut at 2^42: low + 2^42 × high, both small enough to be put together again below 2^64
+--   Leaf             two polynomials of at most 80 coefficients stand in the words, which have room for their product from a place on
+--   leafProduct      the words with the product, modulo q, at that place
 -- Assumes nothing.
-use Prim.Native.Nat.{ℕ, _+_, _-_, _*_, _≤_, _<_}
+use Prim.Native.Nat.{ℕ, _+_, _-_, _*_, _%_, _≤_, _<_}
 use mathlib.Core.Path.{_≡_}
 use mathlib.Core.Bool.{cond}
 use mathlib.Core.List.{List}
 use lib.Dec.{ltb, leb}
 use lib.ListN.{length, getD}
+use Rattle.definitions.specs.Sequences.{tabulate}
 use Rattle.definitions.specs.Ring.{Element, InRing}
-use Rattle.ring.specs.Work.{part}
+use Rattle.ring.specs.Work.{part, written}
+use Rattle.ring.specs.Linear.{linear}
 use Rattle.rows.specs.declared.Factors.{Factors}
 
 unfoldable pub padded : ℕ → Element → Element
@@ -61,3 +65,12 @@ pub record Halves (total low high : ℕ) : Type 0 where
   pub whole : low + 4398046511104 * high ≡ total
   pub low-small : low < 140737488355328
   pub high-small : high < 134217728
+
+pub record Leaf (m a b at : ℕ) (words : List ℕ) : Type 0 where
+  pub few : m ≤ 80
+  pub first : a + m ≤ length words
+  pub second : b + m ≤ length words
+  pub room : at + (m + m) ≤ length words
+
+abbrev pub leafProduct : ℕ → ℕ → ℕ → ℕ → ℕ → List ℕ → List ℕ
+leafProduct q m a b at words = written at (tabulate (m + m) (λ k. linear m (part words a) (part words b) k % q)) words

@@ -1,7 +1,7 @@
 // The product of two short polynomials, row by row (a leaf of Karatsuba's product): row i is a_i × b, shifted by i places, and eight rows
 // are added at a time, in 64 bits, or four where no more are left. Where eighty products may pass 2^64, each sum of four is cut at 2^42
 // into a low and a high part. One reduction at the end is enough, and is left to callers of the sums. Nothing is refused: callers keep to
-// 80 coefficients, each below q and those of b below top. The contracts cite ring's linear; those of the steps also specs/Rows.antt.
+// 80 coefficients, each below q and those of b below top. The contracts cite ring's linear, through specs/Rows.antt.
 ghost use mathlib.Core.Path.{_≡_};
 ghost use Prim.Native.Nat.{ℕ, _+_, _*_, _%_, _/_, _<_, _≤_};
 ghost use lib.ListN.{length, getD, replicate};
@@ -9,7 +9,9 @@ ghost use Rattle.definitions.specs.Sequences.{tabulate};
 ghost use Rattle.definitions.specs.Ring.{InRing, elementOf};
 ghost use Rattle.ring.specs.Work.{part, written};
 ghost use Rattle.ring.specs.Linear.{linear};
-ghost use Rattle.rows.specs.Rows.{padded, factorsFrom, eightRows, rowSum, Surrounded, Operands, Added, Halves};
+ghost use Rattle.reduction.specs.Moduli.{Reciprocal};
+ghost use Rattle.rows.specs.Rows.{padded, factorsFrom, eightRows, rowSum, Surrounded, Operands, Added, Halves, Leaf, leafProduct};
+use reduction::Modulus;
 
 // Where a sum of four products is cut: 2^42.
 const CUT: u64 = 4398046511104;
@@ -171,27 +173,27 @@ fn all_cut_rows(low: &mut [u64], high: &mut [u64], words: &[u32], at: usize, m: 
 }
 
 // The first n sums, reduced.
-fn reduce(product: &mut [u32], low: &[u64], n: usize, q: u32, reciprocal: u64)
-    requires { ⌜ (n ≤ length (now product)) × (n ≤ length (now low)) × (0 < q) × (q < 2147483648) × (reciprocal ≡ 18446744073709551615 / q) ⌝ }
-    ensures { λ _. ⌜ now (product .exit) ≡ written 0 (tabulate n (λ k. getD (now (low .entry)) k 0 % q)) (now (product .entry)) ⌝ }
+fn reduce(product: &mut [u32], low: &[u64], n: usize, modulus: Modulus)
+    requires { ⌜ (n ≤ length (now product)) × (n ≤ length (now low)) × Reciprocal modulus ⌝ }
+    ensures { λ _. ⌜ now (product .exit) ≡ written 0 (tabulate n (λ k. getD (now (low .entry)) k 0 % modulus .q)) (now (product .entry)) ⌝ }
 {
     let mut k = 0;
     while k < n {
-        product[k] = reduction::remainder(low[k], q, reciprocal);
+        product[k] = reduction::remainder(low[k], modulus);
         k += 1;
     }
 }
 
 // The same of cut sums, put together again with 2^42 modulo q for 2^42.
-fn reduce_cut(product: &mut [u32], low: &[u64], high: &[u64], n: usize, q: u32, reciprocal: u64)
-    requires { ⌜ (n ≤ length (now product)) × (n ≤ length (now low)) × (n ≤ length (now high)) × (0 < q) × (q < 2147483648) × (reciprocal ≡ 18446744073709551615 / q) ⌝ }
+fn reduce_cut(product: &mut [u32], low: &[u64], high: &[u64], n: usize, modulus: Modulus)
+    requires { ⌜ (n ≤ length (now product)) × (n ≤ length (now low)) × (n ≤ length (now high)) × Reciprocal modulus ⌝ }
     requires { ⌜ InRing 140737488355328 n (elementOf (now low)) × InRing 134217728 n (elementOf (now high)) ⌝ }
-    ensures { λ _. ⌜ now (product .exit) ≡ written 0 (tabulate n (λ k. (getD (now (low .entry)) k 0 + 4398046511104 * getD (now (high .entry)) k 0) % q)) (now (product .entry)) ⌝ }
+    ensures { λ _. ⌜ now (product .exit) ≡ written 0 (tabulate n (λ k. (getD (now (low .entry)) k 0 + 4398046511104 * getD (now (high .entry)) k 0) % modulus .q)) (now (product .entry)) ⌝ }
 {
-    let fold = CUT % (q as u64);
+    let fold = CUT % (modulus.q as u64);
     let mut k = 0;
     while k < n {
-        product[k] = reduction::remainder(high[k] * fold + low[k], q, reciprocal);
+        product[k] = reduction::remainder(high[k] * fold + low[k], modulus);
         k += 1;
     }
 }
@@ -214,31 +216,30 @@ fn multiply_uncut(
     b: usize,
     at: usize,
     m: usize,
-    q: u32,
+    modulus: Modulus,
     top: u32,
-    reciprocal: u64,
 )
-    requires { ⌜ (m ≤ 80) × (a + m ≤ length (now words)) × (b + m ≤ length (now words)) × (at + (m + m) ≤ length (now words)) × (top ≤ q) × (0 < q) × (q < 2147483648) × (reciprocal ≡ 18446744073709551615 / q) × (q * top ≤ 230584300867682304) ⌝ }
-    requires { ⌜ InRing q m (part (now words) a) × InRing top m (part (now words) b) ⌝ }
-    ensures { λ _. ⌜ now (words .exit) ≡ written at (tabulate (m + m) (λ k. linear m (part (now (words .entry)) a) (part (now (words .entry)) b) k % q)) (now (words .entry)) ⌝ }
+    requires { ⌜ Leaf m a b at (now words) × (top ≤ modulus .q) × Reciprocal modulus × (modulus .q * top ≤ 230584300867682304) ⌝ }
+    requires { ⌜ InRing (modulus .q) m (part (now words) a) × InRing top m (part (now words) b) ⌝ }
+    ensures { λ _. ⌜ now (words .exit) ≡ leafProduct (modulus .q) m a b at (now (words .entry)) ⌝ }
 {
     let mut low = [0u64; 168];
-    sums(words, a, b, m, q, top, &mut low);
-    reduce(&mut words[at..], &low, m + m, q, reciprocal);
+    sums(words, a, b, m, modulus.q, top, &mut low);
+    reduce(&mut words[at..], &low, m + m, modulus);
 }
 
 // The product in any case.
-fn multiply_cut(words: &mut [u32], a: usize, b: usize, at: usize, m: usize, q: u32, reciprocal: u64)
-    requires { ⌜ (m ≤ 80) × (a + m ≤ length (now words)) × (b + m ≤ length (now words)) × (at + (m + m) ≤ length (now words)) × (0 < q) × (q < 2147483648) × (reciprocal ≡ 18446744073709551615 / q) ⌝ }
-    requires { ⌜ InRing q m (part (now words) a) × InRing q m (part (now words) b) ⌝ }
-    ensures { λ _. ⌜ now (words .exit) ≡ written at (tabulate (m + m) (λ k. linear m (part (now (words .entry)) a) (part (now (words .entry)) b) k % q)) (now (words .entry)) ⌝ }
+fn multiply_cut(words: &mut [u32], a: usize, b: usize, at: usize, m: usize, modulus: Modulus)
+    requires { ⌜ Leaf m a b at (now words) × Reciprocal modulus ⌝ }
+    requires { ⌜ InRing (modulus .q) m (part (now words) a) × InRing (modulus .q) m (part (now words) b) ⌝ }
+    ensures { λ _. ⌜ now (words .exit) ≡ leafProduct (modulus .q) m a b at (now (words .entry)) ⌝ }
 {
     let mut row = [0u64; 96];
     let mut low = [0u64; 168];
     let mut high = [0u64; 168];
     pad(&mut row, words, b, m);
     all_cut_rows(&mut low, &mut high, words, a, m, &row);
-    reduce_cut(&mut words[at..], &low, &high, m + m, q, reciprocal);
+    reduce_cut(&mut words[at..], &low, &high, m + m, modulus);
 }
 
 // The product modulo q of the polynomials of m coefficients that stand from a and from b on in the words, to the words from at on; top is
@@ -249,17 +250,16 @@ pub fn multiply(
     b: usize,
     at: usize,
     m: usize,
-    q: u32,
+    modulus: Modulus,
     top: u32,
-    reciprocal: u64,
 )
-    requires { ⌜ (m ≤ 80) × (a + m ≤ length (now words)) × (b + m ≤ length (now words)) × (at + (m + m) ≤ length (now words)) × (top ≤ q) × (0 < q) × (q < 2147483648) × (reciprocal ≡ 18446744073709551615 / q) ⌝ }
-    requires { ⌜ InRing q m (part (now words) a) × InRing top m (part (now words) b) ⌝ }
-    ensures { λ _. ⌜ now (words .exit) ≡ written at (tabulate (m + m) (λ k. linear m (part (now (words .entry)) a) (part (now (words .entry)) b) k % q)) (now (words .entry)) ⌝ }
+    requires { ⌜ Leaf m a b at (now words) × (top ≤ modulus .q) × Reciprocal modulus ⌝ }
+    requires { ⌜ InRing (modulus .q) m (part (now words) a) × InRing top m (part (now words) b) ⌝ }
+    ensures { λ _. ⌜ now (words .exit) ≡ leafProduct (modulus .q) m a b at (now (words .entry)) ⌝ }
 {
-    if (q as u64) * (top as u64) <= UNCUT {
-        multiply_uncut(words, a, b, at, m, q, top, reciprocal);
+    if (modulus.q as u64) * (top as u64) <= UNCUT {
+        multiply_uncut(words, a, b, at, m, modulus, top);
     } else {
-        multiply_cut(words, a, b, at, m, q, reciprocal);
+        multiply_cut(words, a, b, at, m, modulus);
     }
 }

@@ -4,73 +4,63 @@ use native.Mathlib.Omega.{arith}
 use borrow.Author.Needs.{needs}
 use Prim.Native.Nat.{_+_}
 use Rattle.ring.specs.Work.{part}
-use Rattle.products.proofs.Loading.{Loaded, loaded-front, loaded-behind, loaded-below}
+use Rattle.products.proofs.Loading.{Loaded, loaded-both, loaded-below}
 use Rattle.products.proofs.Folding.{product-added}
 use Rattle.products.proofs.multiply_in.Statement.{statement}
 use Rattle.products.proofs.multiply_in.Tie as tie
 
--- the places: behind the first copy, behind the second, and behind the product
+-- the places behind the first copy, behind the second, and behind the product
 abbrev start : tie.After-copy-from → tie.Start
 start c = c .before .before .before .before .before
 
 abbrev first : tie.After-copy-from2 → tie.After-copy-from
 first c = c .before .before .before .before .before
 
-abbrev second : tie.After-reciprocal → tie.After-copy-from2
-second c = c .before .before .before
+abbrev second : tie.After-multiply → tie.After-copy-from2
+second c = c .before .before .before .before
 
 abbrev third : tie.After-fold → tie.After-multiply
 third c = c .before .before .before .before .before
 
 -- the two factors in the words
-factors : (c : tie.After-copy-from2) → let a = start (first c) .args in
-    Loaded (a .p .n) (a .h .m) (part (a .work .now) (a .p .a)) (part (c .copy-from2 .last .0) 0) × Loaded (a .p .n) (a .h .m) (part (a .work .now) (a .p .b)) (part (c .copy-from2 .last .0) (a .h .m))
+factors : (c : tie.After-copy-from2) → let a = start (first c) .args in let w = c .copy-from2 .last .0 in
+    Loaded (a .p .n) (a .h .m) (part (a .work .now) (a .p .a)) (part w 0) × Loaded (a .p .n) (a .h .m) (part (a .work .now) (a .p .b)) (part w (a .h .m))
 factors c =
     let s = start (first c) in
     let a = s .args in
     let w = a .work .now in
-    let copied = first c .copy-from in (
-      loaded-front (a .p .n) (a .h .m) (part w (a .p .a)) (part w (a .p .b)) (a .words .now) _ _ (s .pre .1 .enough) (omega arith) (s .pre .3) (copied .ensures) (c .copy-from2 .ensures),
-      loaded-behind (a .p .n) (a .h .m) (part w (a .p .a)) (part w (a .p .b)) (a .words .now) _ _ (s .pre .1 .enough) (omega arith) (s .pre .3) (copied .ensures) (c .copy-from2 .ensures),
-    )
+    loaded-both (a .p .n) (a .h .m) (part w (a .p .a)) (part w (a .p .b)) (a .words .now) _ _ (s .pre .1 .enough) (omega arith) (s .pre .3)
+    (first c .copy-from .ensures) (c .copy-from2 .ensures)
 
 multiply-requires : tie.Need-multiply-requires
 multiply-requires c κs =
-    let copied = second (c .before) in
+    let copied = c .before .before .before in
     let pre = start (first copied) .pre in
     let within = pre .0 in
+    let room = pre .2 in
+    let long = first copied .copy-from .kept in
+    let long2 = copied .copy-from2 .kept in
     let both = factors copied in (
-      (pre .1 .whole, pre .1 .short, pre .1 .most, omega arith, omega arith, omega arith, omega (arith, copied .copy-from2 .kept, first copied .copy-from .kept)),
-      (
-        (within .top-most, omega (arith, within .top-least, within .top-most), within .modulus-most, c .before .reciprocal .ensures),
-        (loaded-below (both .0) (omega (arith, within .top-least, within .top-most)) (within .first-ring), loaded-below (both .1) (within .top-least) (within .second-ring)),
-      ),
+      (pre .1 .halvable, record { first = omega arith; second = omega arith; product = omega arith; room = omega arith }, within .top-most, within .reciprocal),
+      (loaded-below (both .0) (within .reciprocal .least) (within .first-ring), loaded-below (both .1) (within .top-least) (within .second-ring)),
     )
 
 returns : tie.Need-returns
 returns c =
     let folded = c .before .before in
     let multiplied = third folded in
-    let copied = second (multiplied .before .before) in
+    let copied = second multiplied in
     let s = start (first copied) in
     let p = s .args .p in
     let w = s .args .work .now in
     let m = s .args .h .m in
     let both = factors copied in
-    product-added (p .n) m (p .q) (part w (p .a)) (part w (p .b)) (part (copied .copy-from2 .last .0) 0) (part (copied .copy-from2 .last .0) m) (part (multiplied .multiply .last .0) (m + m))
-    (s .pre .1 .enough) (both .0) (both .1) (multiplied .multiply .ensures .same) (p .c) w (folded .fold .ensures)
+    product-added (p .n) m (s .args .modulus .q) (part w (p .a)) (part w (p .b)) (part (copied .copy-from2 .last .0) 0) (part (copied .copy-from2 .last .0) m)
+    (part (multiplied .multiply .last .0) (m + m)) (s .pre .1 .enough) (both .0) (both .1) (multiplied .multiply .ensures .same) (p .c) w
+    (folded .fold .ensures)
 
 pub multiply-in-spec : {M : Type 1} → statement M
 multiply-in-spec =
     tie.close
-    (tie.spec
-    (λ c. search needs)
-    (λ c. search needs)
-    (λ c κs. search needs)
-    (λ c κs. search needs)
-    (λ c κs. search needs)
-    multiply-requires
-    (λ c κs. search needs)
-    (λ c. search needs)
-    (λ c. search needs)
-    returns)
+    (tie.spec (λ c. search needs) (λ c. search needs) (λ c κs. search needs) (λ c κs. search needs) multiply-requires
+    (λ c κs. search needs) (λ c. search needs) (λ c. search needs) returns)

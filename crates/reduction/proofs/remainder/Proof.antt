@@ -8,15 +8,18 @@ use Rattle.reduction.proofs.Laws.{quotient-le, quotient-near, rest-smal
 use Rattle.reduction.proofs.remainder.Statement.{statement}
 use Rattle.reduction.proofs.remainder.Tie as tie
 
-low : (c : tie.After-high-half) → c .high-half .result * c .before .args .q ≤ c .before .args .s
+low : (c : tie.After-high-half) → c .high-half .result * c .before .args .m .q ≤ c .before .args .s
 low c =
-    let start = c .before in
-    quotient-le 18446744073709551616 18446744073709551615 (start .args .q) (start .args .s) (start .args .reciprocal) (c .high-half .result) refl (start .pre .0) (start .pre .2) (c .high-half .ensures)
+    let s = c .before in
+    quotient-le 18446744073709551616 18446744073709551615 (s .args .m .q) (s .args .s) _ (c .high-half .result) refl (s .pre .least) (s .pre .inverse)
+    (c .high-half .ensures)
 
-near : (c : tie.After-high-half) → c .before .args .s < c .high-half .result * c .before .args .q + c .before .args .q + c .before .args .q
+near : (c : tie.After-high-half) → let m = c .before .args .m in c .before .args .s < c .high-half .result * m .q + m .q + m .q
 near c =
-    let start = c .before in
-    quotient-near 18446744073709551616 18446744073709551615 (start .args .q) (start .args .s) (start .args .reciprocal) (c .high-half .result) refl (start .pre .0) (start .pre .2) (c .high-half .ensures) (start .fits .s .fits)
+    let s = c .before in
+    quotient-near 18446744073709551616 18446744073709551615 (s .args .m .q) (s .args .s) _ (c .high-half .result) refl (s .pre .least) (s .pre .inverse)
+    (c .high-half .ensures)
+    (s .fits .s .fits)
 
 mul-r : tie.Need-mul-r
 mul-r c = omega (arith, low c)
@@ -25,13 +28,13 @@ sub-r : tie.Need-sub-r
 sub-r c = low c
 
 cast-t : tie.Need-cast-t
-cast-t c = record { fits = rest-small (c .high-half .result) (near c) (c .before .pre .1) }
+cast-t c = record { fits = rest-small (c .high-half .result) (near c) (c .before .pre .most) }
 
 returns : tie.Need-returns
-returns c = rest-below (c .before .high-half .result) (low (c .before)) (c .if1 .taken)
+returns c = let h = c .before in rest-below (h .high-half .result) (low h) (c .if1 .taken)
 
 returns-2 : tie.Need-returns-2
-returns-2 c = rest-above (c .before .high-half .result) (low (c .before)) (near (c .before)) (c .if1 .left)
+returns-2 c = let h = c .before in rest-above (h .high-half .result) (low h) (near h) (c .if1 .left)
 
 pub remainder-spec : {M : Type 1} → statement M
-remainder-spec = tie.close (tie.spec (λ c κs. search needs) mul-r sub-r cast-t returns returns-2)
+remainder-spec = tie.close (tie.spec (λ c κs. search needs) (λ c. search needs) mul-r sub-r cast-t returns returns-2)

@@ -1,7 +1,7 @@
 -- `rows::multiply_cut` meets its contract: the halves of the rows sum to the product, which is put together again and reduced.
 -- Assumes nothing.
-use borrow.Author.Needs.{needs}
 use native.Mathlib.Omega.{arith}
+use borrow.Author.Needs.{needs}
 use Prim.Native.Nat.{_+_}
 use native.Mathlib.Nat.{le-of-lt}
 use mathlib.Core.Path.{refl, _∙_}
@@ -10,48 +10,50 @@ use Rattle.rows.proofs.Rows.{linear-row, row-operands, reduced-lent}
 use Rattle.rows.proofs.multiply_cut.Statement.{statement}
 use Rattle.rows.proofs.multiply_cut.Tie as tie
 
+-- the places behind the row and behind the sums
+abbrev start : tie.After-pad → tie.Start
+start c = c .before .before .before .before
+
+abbrev padded : tie.After-all-cut-rows → tie.After-pad
+padded c = c .before .before .before .before .before .before
+
 pad-requires : tie.Need-pad-requires
-pad-requires c κs =
-    let pre = c .before .before .before .pre in
-    (pre .0 .0, pre .0 .2, refl)
+pad-requires c κs = let leaf = c .before .before .before .pre .0 .0 in (leaf .few, leaf .second, refl)
 
 all-cut-rows-requires : tie.Need-all-cut-rows-requires
 all-cut-rows-requires c κs =
-    let start = c .before .before .before .before .before .before .before .before .before in
-    let pad = c .before .before .before .before .before .pad in
-    (row-operands (start .args .m) _ (pad .last .0) (pad .ensures) (start .pre .0 .0) (start .pre .0 .1) (omega (arith, pad .kept)) (le-of-lt (start .pre .0 .5)) (le-of-lt (start .pre .0 .5)) (start .pre .1 .0) (start .pre .1 .1), refl, refl)
+    let row = c .before .before .before .before .before in
+    let pre = start row .pre in
+    let leaf = pre .0 .0 in
+    let small = le-of-lt (pre .0 .1 .most) in (
+      row-operands (start row .args .m) _ _ (row .pad .ensures) (leaf .few) (leaf .first) (omega (arith, row .pad .kept)) small small (pre .1 .0)
+          (pre .1 .1),
+      refl,
+      refl,
+    )
 
 reduce-cut-requires : tie.Need-reduce-cut-requires
 reduce-cut-requires c κs =
-    let start = c .before .before .before .before .before .before .before .before .before .before .before .before .before .before .before in
-    let rows = c .before .before .before .before .before .all-cut-rows in
-    ((omega arith, omega (arith, rows .kept), omega (arith, rows .kept), start .pre .0 .4, start .pre .0 .5, start .pre .0 .6), ((λ k l. rows .ensures k .low-small), (λ k l. rows .ensures k .high-small)))
+    let sums = c .before .before .before .before .before in
+    let rows = sums .all-cut-rows in
+    let pre = start (padded sums) .pre .0 in
+    let leaf = pre .0 in (
+      (omega arith, omega (arith, rows .kept), omega (arith, rows .kept), pre .1),
+      ((λ k l. rows .ensures k .low-small), (λ k l. rows .ensures k .high-small)),
+    )
 
 returns : tie.Need-returns
 returns c =
-    let start = c .before .before .before .before .before .before .before .before .before .before .before .before .before .before .before .before .before .before in
-    let a = start .args in
-    let rows = c .before .before .before .before .before .before .before .before .all-cut-rows in
-    let pad = c .before .before .before .before .before .before .before .before .before .before .before .before .before .before .pad in
-    reduced-lent (a .at) (a .m + a .m) (a .q) (a .words .now) (start .pre .0 .3) (λ k. rows .ensures k .whole ∙ linear-row (a .m) _ (pad .last .0) (pad .ensures) (part (a .words .now) (a .a)) k) (c .before .before .reduce-cut .ensures)
+    let sums = c .before .before .before .before .before .before .before .before in
+    let row = padded sums in
+    let a = start row .args in
+    reduced-lent (a .at) (a .m + a .m) (a .modulus .q) (a .words .now) (start row .pre .0 .0 .room)
+    (λ k. sums .all-cut-rows .ensures k .whole ∙ linear-row (a .m) _ (row .pad .last .0) (row .pad .ensures) (part (a .words .now) (a .a)) k)
+    (c .before .before .reduce-cut .ensures)
 
 pub multiply-cut-spec : {M : Type 1} → statement M
 multiply-cut-spec =
     tie.close
-    (tie.spec
-    (λ c. search needs)
-    pad-requires
-    (λ c. search needs)
-    (λ c. search needs)
-    (λ c. search needs)
-    all-cut-rows-requires
-    (λ c. search needs)
-    (λ c. search needs)
-    (λ c. search needs)
-    (λ c. search needs)
-    (λ c. search needs)
-    (λ c. search needs)
-    (λ c. search needs)
-    reduce-cut-requires
-    (λ c. search needs)
-    returns)
+    (tie.spec (λ c. search needs) pad-requires (λ c. search needs) (λ c. search needs) (λ c. search needs) all-cut-rows-requires (λ c. search needs)
+    (λ c. search needs) (λ c. search needs) (λ c. search needs) (λ c. search needs) (λ c. search needs) (λ c. search needs) reduce-cut-requires
+    (λ c. search needs) returns)

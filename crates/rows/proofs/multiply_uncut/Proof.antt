@@ -1,7 +1,7 @@
 -- `rows::multiply_uncut` meets its contract: the rows sum to the product, which is then reduced.
 -- Assumes nothing.
-use borrow.Author.Needs.{needs}
 use native.Mathlib.Omega.{arith}
+use borrow.Author.Needs.{needs}
 use Prim.Native.Nat.{_+_}
 use mathlib.Core.Path.{refl}
 use Rattle.rows.proofs.Rows.{reduced-lent}
@@ -11,26 +11,18 @@ use Rattle.rows.proofs.multiply_uncut.Tie as tie
 sums-requires : tie.Need-sums-requires
 sums-requires c κs =
     let pre = c .before .before .before .pre in
-    ((pre .0 .0, pre .0 .1, pre .0 .2, refl, pre .0 .8, pre .0 .6, omega arith), pre .1)
+    let leaf = pre .0 .0 in
+    ((leaf .few, leaf .first, leaf .second, refl, pre .0 .3, pre .0 .2 .most, omega arith), pre .1)
 
 returns : tie.Need-returns
 returns c =
-    let start = c .before .before .before .before .before .before .before .before .before .before in
-    let a = start .args in
-    reduced-lent (a .at) (a .m + a .m) (a .q) (a .words .now) (start .pre .0 .3) (c .before .before .before .before .before .before .sums .ensures) (c .before .before .reduce .ensures)
+    let sums = c .before .before .before .before .before .before in
+    let s = sums .before .before .before .before in
+    let a = s .args in
+    reduced-lent (a .at) (a .m + a .m) (a .modulus .q) (a .words .now) (s .pre .0 .0 .room) (sums .sums .ensures) (c .before .before .reduce .ensures)
 
 pub multiply-uncut-spec : {M : Type 1} → statement M
 multiply-uncut-spec =
     tie.close
-    (tie.spec
-    (λ c. search needs)
-    sums-requires
-    (λ c. search needs)
-    (λ c. search needs)
-    (λ c. search needs)
-    (λ c. search needs)
-    (λ c. search needs)
-    (λ c. search needs)
-    (λ c κs. search needs)
-    (λ c. search needs)
-    returns)
+    (tie.spec (λ c. search needs) sums-requires (λ c. search needs) (λ c. search needs) (λ c. search needs) (λ c. search needs) (λ c. search needs)
+    (λ c. search needs) (λ c κs. search needs) (λ c. search needs) returns)

@@ -1,96 +1,51 @@
--- `rows::reduce_cut` meets its contract: after k turns the first k sums are put together and reduced; 2^42 × high is high × (2^42 modulo q)
+-- `rows::reduce_cut` meets its contract: a turn puts the sums of its place together and reduces them; 2^42 × high is high × (2^42 modulo q)
 -- modulo q.
 -- Assumes nothing.
 use native.Mathlib.Omega.{arith}
-use Prim.Native.Nat.{_+_, _-_, _*_, _%_, _≤_}
+use borrow.Author.Needs.{needs}
+use Prim.Native.Nat.{ℕ, _+_, _-_, _*_, _%_, _<_}
 use native.Mathlib.Nat.{zero-add, mod-lt, lt-trans}
 use mathlib.Core.Path.{sym, _∙_}
 use lib.ListN.{getD}
-use Rattle.ring.proofs.Work.{Writing, writing-none, writing-more, writing-all}
+use Rattle.ring.proofs.Work.{WritingWords, writing-none, writing-more, writing-all}
 use Rattle.rows.proofs.Bounds.{folded-high-small, folded-small, folded-cong}
 use Rattle.rows.proofs.reduce_cut.Statement.{statement}
 use Rattle.rows.proofs.reduce_cut.Tie as tie
 
 abbrev Inv-loop : tie.InvT-loop
-Inv-loop product₀ low high n q reciprocal fold k₀ product k = (k ≤ n) × Writing 0 k (λ j. (getD low j 0 + 4398046511104 * getD high j 0) % q) product₀ product
+Inv-loop product₀ low high n modulus fold k₀ product k = WritingWords 0 n (λ j. (getD low j 0 + 4398046511104 * getD high j 0) % modulus .q) product₀ k product
 
 abbrev μ-loop : tie.MeasureT-loop
-μ-loop product₀ low high n q reciprocal fold k₀ product k = n - k
-
-rem-fold : tie.Need-rem-fold Inv-loop μ-loop
-rem-fold c = omega arith
+μ-loop product₀ low high n modulus fold k₀ product k = n - k
 
 loop-holds : tie.Need-loop-holds Inv-loop μ-loop
-loop-holds c = (omega arith, writing-none _ _ _)
+loop-holds c = writing-none (omega arith)
 
-mul-remainder : tie.Need-mul-remainder Inv-loop μ-loop
-mul-remainder c = omega arith
-
-shared-slice-read-remainder : tie.Need-shared-slice-read-remainder Inv-loop μ-loop
-shared-slice-read-remainder c = omega arith
+small : (c : tie.Start Inv-loop μ-loop) (x : ℕ) → x % c .args .modulus .q < 2147483648
+small c x = lt-trans (mod-lt x (c .pre .0 .3 .least)) (c .pre .0 .3 .most)
 
 mul-remainder-2 : tie.Need-mul-remainder-2 Inv-loop μ-loop
 mul-remainder-2 c =
-    let start = c .before .before .before .before .before .before in
-    record { fits = folded-high-small (start .pre .1 .1 (c .before .before .loop .k) (omega arith)) (lt-trans (mod-lt _ (start .pre .0 .3)) (start .pre .0 .4)) }
-
-mul-remainder-3 : tie.Need-mul-remainder-3 Inv-loop μ-loop
-mul-remainder-3 c = omega arith
-
-shared-slice-read-remainder-2 : tie.Need-shared-slice-read-remainder-2 Inv-loop μ-loop
-shared-slice-read-remainder-2 c = omega arith
+    let s = c .before .before .before .before .before .before .before in
+    record { fits = folded-high-small (s .pre .1 .1 (c .before .before .loop .k) (omega arith)) (small s _) }
 
 add-remainder : tie.Need-add-remainder Inv-loop μ-loop
 add-remainder c =
-    let start = c .before .before .before .before .before .before .before in
+    let s = c .before .before .before .before .before .before .before .before in
     let k = c .before .before .before .loop .k in
-    record { fits = folded-small (start .pre .1 .1 k (omega arith)) (lt-trans (mod-lt _ (start .pre .0 .3)) (start .pre .0 .4)) (start .pre .1 .0 k (omega arith)) }
-
-remainder-requires : tie.Need-remainder-requires Inv-loop μ-loop
-remainder-requires c κs = (omega arith, omega arith, c .before .before .before .before .before .before .before .pre .0 .5)
-
-mul-product : tie.Need-mul-product Inv-loop μ-loop
-mul-product c = omega arith
-
-slice-write-product : tie.Need-slice-write-product Inv-loop μ-loop
-slice-write-product c = omega arith
-
-add-k : tie.Need-add-k Inv-loop μ-loop
-add-k c = omega arith
-
-loop-less : tie.Need-loop-less Inv-loop μ-loop
-loop-less c = omega arith
+    record { fits = folded-small (s .pre .1 .1 k (omega arith)) (small s _) (s .pre .1 .0 k (omega arith)) }
 
 loop-again : tie.Need-loop-again Inv-loop μ-loop
 loop-again c =
     let l = c .before .before .before .before .loop in
-    (omega arith, writing-more (l .inv .1) (sym (zero-add (l .k))) (omega arith) (c .remainder .ensures ∙ folded-cong _ _ _))
-
-same-length : tie.Need-same-length Inv-loop μ-loop
-same-length c = omega arith
+    writing-more (l .inv) (sym (zero-add (l .k))) (omega arith) (c .remainder .ensures ∙ folded-cong _ _ _)
 
 returns : tie.Need-returns Inv-loop μ-loop
-returns c = writing-all (c .before .loop .inv .1) (omega arith)
+returns c = writing-all (c .before .loop .inv) (omega arith)
 
 pub reduce-cut-spec : {M : Type 1} → statement M
 reduce-cut-spec =
     tie.close
-    (tie.spec
-    Inv-loop
-    μ-loop
-    rem-fold
-    loop-holds
-    mul-remainder
-    shared-slice-read-remainder
-    mul-remainder-2
-    mul-remainder-3
-    shared-slice-read-remainder-2
-    add-remainder
-    remainder-requires
-    mul-product
-    slice-write-product
-    add-k
-    loop-less
-    loop-again
-    same-length
-    returns)
+    (tie.spec Inv-loop μ-loop (λ c. search needs) (λ c. search needs) loop-holds (λ c. search needs) (λ c. search needs) mul-remainder-2 (λ c. search needs)
+    (λ c. search needs) add-remainder (λ c κs. search needs) (λ c. search needs) (λ c. search needs) (λ c. search needs) (λ c. search needs)
+    loop-again (λ c. search needs) returns)

@@ -1,17 +1,15 @@
 -- `rows::row_sum` meets its contract: it multiplies what `rowSum` multiplies.
 -- Assumes nothing.
 use borrow.Author.Needs.{needs}
-use Prim.Native.Nat.{_+_}
 use Rattle.rows.specs.Rows.{rowSum}
 use Rattle.rows.proofs.row_sum.Statement.{statement}
 use Rattle.rows.proofs.row_sum.Tie as tie
 
 products-requires : tie.Need-products-requires
 products-requires c κs =
-    let start = c .before .before .before .before .before in
-    let k = start .args .k in
-    let below = start .pre .1 .1 in
-    (start .pre .0, (below (k + 3), below (k + 2), below (k + 1), below k))
+    let s = c .before .before .before .before .before in
+    let below = s .pre .1 .1 in
+    (s .pre .0, (below _, below _, below _, below _))
 
 returns : tie.Need-returns
 unfolding rowSum
@@ -20,17 +18,5 @@ returns c = c .products .ensures
 pub row-sum-spec : {M : Type 1} → statement M
 row-sum-spec =
     tie.close
-    (tie.spec
-    (λ c. search needs)
-    (λ c. search needs)
-    (λ c. search needs)
-    (λ c. search needs)
-    (λ c. search needs)
-    (λ c. search needs)
-    (λ c. search needs)
-    (λ c. search needs)
-    (λ c. search needs)
-    (λ c. search needs)
-    (λ c. search needs)
-    products-requires
-    returns)
+    (tie.spec (λ c. search needs) (λ c. search needs) (λ c. search needs) (λ c. search needs) (λ c. search needs) (λ c. search needs)
+    (λ c. search needs) (λ c. search needs) (λ c. search needs) (λ c. search needs) (λ c. search needs) products-requires returns)

@@ -1,0 +1,2 @@
+-- A modulus and its reciprocal.
+pub mod Moduli
