@@ -2,7 +2,7 @@
 --
 --   lanes-whole      the number of the four lanes is that of the coefficients
 --   lane-..          a lane with one coefficient more; it fits 32 bits, as all of them do together;  lanes-stored: the four lanes stored
---   join-..          the four shifted sums as the code makes them
+--   four-value       the number of four lanes, as a sum
 --   collect-step     the lanes of one group more;  join-step: its octets
 --   groups-step      the octets of up to 16 groups more;  number-fits: the number of a group fits 32 bits
 -- Assumes nothing.
@@ -10,7 +10,7 @@ use Prim.Native.Nat.{ℕ, zero, suc, _+_, _*_, _%_, _^_, _≤_, _<_, zero-le}
 use mathlib.Core.Path.{_≡_, refl, sym, ap, _∙_}
 use mathlib.Core.Bool.{true}
 use mathlib.Core.List.{List, [], _∷_, _++_, append-nil, append-assoc}
-use native.Mathlib.Nat.{add-zero, mul-le-mul-right, mod-eq-of-lt, le-trans, lt-of-le-of-lt}
+use native.Mathlib.Nat.{add-zero, mul-le-mul-right, le-trans, lt-of-le-of-lt}
 use native.Mathlib.Numerals.{add-one}
 use native.Mathlib.Omega.{arith}
 use lib.Pow.{pow-pos, pow-add}
@@ -19,7 +19,7 @@ use Rattle.definitions.specs.Sequences.{sum, tabulate, joined}
 use Rattle.definitions.specs.Octets.{octetsOf, regrouped, encoded, coefficientsFit}
 use Rattle.definitions.proofs.Filling.{tabulate-snoc, four-stored, four-read, put-step}
 use Rattle.definitions.proofs.Sums.{tabulate-cong}
-use Rattle.definitions.proofs.Octets.{AllBelow, coefficientsFit-below}
+use Rattle.definitions.proofs.Octets.{AllBelow}
 use Rattle.encoding.proofs.Laws.{encoded-snoc}
 use Rattle.packing.specs.Fields.{valueIn, fieldsOf}
 use Rattle.packing.specs.Lanes.{laneFrom, lanesIn, laneNumber, groupNumber}
@@ -89,35 +89,14 @@ lanes-stored l to b rows at words {x0} {x1} {x2} {x3} h e0 e1 e2 e3 = rw (← e0
 
 -- ---- four lanes joined
 
-module _ (lanes : List ℕ) (at b : ℕ) (inside : at + 4 ≤ length lanes) where
-  four-value : valueIn b (take 4 (drop at lanes))
-      ≡ getD lanes at 0 + getD lanes (at + 1) 0 * 2 ^ b + getD lanes (at + 2) 0 * 2 ^ (2 * b) + getD lanes (at + 3) 0 * 2 ^ (3 * b)
-  unfolding valueIn
-  four-value =
-      let two : 2 ^ (2 * b) ≡ 2 ^ b * 2 ^ b = ap (λ (e : ℕ). 2 ^ e) (omega arith) ∙ pow-add 2 b b in
-      let three : 2 ^ (3 * b) ≡ 2 ^ b * (2 ^ b * 2 ^ b)
-      = ap (λ (e : ℕ). 2 ^ e) (omega arith) ∙ pow-add 2 b (b + b) ∙ ap (λ (e : ℕ). 2 ^ b * e) (pow-add 2 b b) in
-      rw (four-read lanes at inside, two, three) (omega arith)
-
-  module _ (fits : valueIn b (take 4 (drop at lanes)) < 4294967296) where
-    exact-1 : getD lanes (at + 1) 0 * 2 ^ b % 4294967296 ≡ getD lanes (at + 1) 0 * 2 ^ b
-    exact-1 = mod-eq-of-lt (omega (arith, four-value))
-
-    exact-2 : getD lanes (at + 2) 0 * 2 ^ (2 * b) % 4294967296 ≡ getD lanes (at + 2) 0 * 2 ^ (2 * b)
-    exact-2 = mod-eq-of-lt (omega (arith, four-value))
-
-    exact-3 : getD lanes (at + 3) 0 * 2 ^ (3 * b) % 4294967296 ≡ getD lanes (at + 3) 0 * 2 ^ (3 * b)
-    exact-3 = mod-eq-of-lt (omega (arith, four-value))
-
-    pub join-two : getD lanes at 0 + getD lanes (at + 1) 0 * 2 ^ b % 4294967296 < 4294967296
-    join-two = rw exact-1 (omega (arith, four-value))
-
-    pub join-three : getD lanes at 0 + getD lanes (at + 1) 0 * 2 ^ b % 4294967296 + getD lanes (at + 2) 0 * 2 ^ (2 * b) % 4294967296 < 4294967296
-    join-three = rw (exact-1, exact-2) (omega (arith, four-value))
-
-    pub join-four : getD lanes at 0 + getD lanes (at + 1) 0 * 2 ^ b % 4294967296 + getD lanes (at + 2) 0 * 2 ^ (2 * b) % 4294967296
-        + getD lanes (at + 3) 0 * 2 ^ (3 * b) % 4294967296 ≡ valueIn b (take 4 (drop at lanes))
-    join-four = rw (exact-1, exact-2, exact-3) (sym four-value)
+pub four-value : (lanes : List ℕ) (at b : ℕ) → at + 4 ≤ length lanes → valueIn b (take 4 (drop at lanes))
+    ≡ getD lanes at 0 + getD lanes (at + 1) 0 * 2 ^ b + getD lanes (at + 2) 0 * 2 ^ (2 * b) + getD lanes (at + 3) 0 * 2 ^ (3 * b)
+unfolding valueIn
+four-value lanes at b inside =
+    let two : 2 ^ (2 * b) ≡ 2 ^ b * 2 ^ b = ap (λ (e : ℕ). 2 ^ e) (omega arith) ∙ pow-add 2 b b in
+    let three : 2 ^ (3 * b) ≡ 2 ^ b * (2 ^ b * 2 ^ b)
+    = ap (λ (e : ℕ). 2 ^ e) (omega arith) ∙ pow-add 2 b (b + b) ∙ ap (λ (e : ℕ). 2 ^ b * e) (pow-add 2 b b) in
+    rw (four-read lanes at inside, two, three) (omega arith)
 
 -- ---- the lanes of some groups
 

@@ -1,6 +1,5 @@
 -- `decoding::four` is right because each octet has 256 times the weight of the one before it.
 -- Assumes nothing.
-use mathlib.Core.Path.{_≡_}
 use native.Mathlib.Omega.{arith}
 use borrow.Author.Needs.{needs}
 use Rattle.definitions.specs.Sequences.{sum}

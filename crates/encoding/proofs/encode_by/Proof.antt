@@ -1,7 +1,7 @@
 -- `encoding::encode_by` is right because each turn stores the octets of two words behind those of the words before, and the last ones follow.
 -- Assumes nothing.
 use Prim.Native.Nat.{_+_, _-_, _*_, _≤_}
-use mathlib.Core.Path.{_≡_, refl, sym, _∙_}
+use mathlib.Core.Path.{refl, sym, _∙_}
 use native.Mathlib.Nat.{le-of-eq, zero-mul}
 use native.Mathlib.Omega.{arith}
 use lib.ListN.{length}

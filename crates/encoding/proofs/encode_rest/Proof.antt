@@ -1,7 +1,7 @@
 -- `encoding::encode_rest` is right because each turn stores the octets of its word behind those of the words before it.
 -- Assumes nothing.
 use Prim.Native.Nat.{_+_, _-_, _*_, _≤_}
-use mathlib.Core.Path.{_≡_, refl, sym, _∙_}
+use mathlib.Core.Path.{refl, sym, _∙_}
 use native.Mathlib.Nat.{le-of-eq}
 use native.Mathlib.Omega.{arith}
 use lib.ListN.{length}
@@ -34,7 +34,7 @@ mul-store : tie.Need-mul-store Inv-loop μ-loop
 mul-store c = record { fits = omega (arith, room (search needs)) }
 
 store-requires : tie.Need-store-requires Inv-loop μ-loop
-store-requires c κs = (omega arith, room (search needs))
+store-requires c κs = (omega arith, omega (arith, room (search needs)))
 
 loop-again : tie.Need-loop-again Inv-loop μ-loop
 loop-again c =

@@ -1,11 +1,9 @@
 -- `encoding::pair` is right because the second word has the weight that follows the first word's octets, and 64 bits hold both.
 -- Assumes nothing.
-use Prim.Native.Nat.{_+_, _<_}
 use native.Mathlib.Nat.{lt-of-lt-of-le}
 use native.Mathlib.Omega.{arith}
 use lib.Dec.{lit≤}
 use borrow.Author.Needs.{needs}
-use lib.ListN.{getD}
 use Rattle.definitions.proofs.Powers.{shl-octets}
 use Rattle.encoding.proofs.Laws.{pair-weight-pos, pair-fits, pair-second-fits}
 use Rattle.encoding.proofs.pair.Statement.{statement}
@@ -14,14 +12,11 @@ use Rattle.encoding.proofs.pair.Tie as tie
 abbrev start : tie.After-shared-slice-known2 → tie.Start
 start c = search needs
 
-second : (c : tie.After-shared-slice-known2) → getD (start c .args .words .now) (start c .args .m + 1) 0 < 4294967296
-second c = c .shared-slice-known2 .given (start c .args .m + 1) .fits
-
 mul-result-3 : tie.Need-mul-result-3
-mul-result-3 c = record { fits = pair-second-fits _ (omega arith) (getD (start c .args .words .now) (start c .args .m) 0) _ (second c) }
+mul-result-3 c = record { fits = pair-second-fits _ (omega arith) 0 _ (c .shared-slice-known2 .given _ .fits) }
 
 add-result-2 : tie.Need-add-result-2
-add-result-2 c = record { fits = pair-fits (start c .args .qlen) (omega arith) _ _ (second c) }
+add-result-2 c = record { fits = pair-fits (start c .args .qlen) (omega arith) _ _ (c .shared-slice-known2 .given _ .fits) }
 
 returns : tie.Need-returns
 returns c = rw (shl-octets (start c .args .qlen) 64 (omega arith))
@@ -31,5 +26,6 @@ pair-spec =
     tie.close
     (tie.spec (λ c. search needs) (λ c. search needs) (λ c. search needs) (λ c. search needs)
     (λ c. record { fits = lt-of-lt-of-le (c .shared-slice-known .given _ .fits) (lit≤ tt) }) (λ c. pair-weight-pos _ (omega arith))
-    (λ c. search needs) (λ c. search needs) (λ c. search needs) (λ c. record { fits = lt-of-lt-of-le (second c) (lit≤ tt) })
+    (λ c. search needs) (λ c. search needs) (λ c. search needs)
+    (λ c. record { fits = lt-of-lt-of-le (c .shared-slice-known2 .given _ .fits) (lit≤ tt) })
     mul-result-3 add-result-2 returns)

@@ -1,7 +1,6 @@
 -- `packing::clear_octets` is right because each turn puts one zero behind those that are there.
 -- Assumes nothing.
 use Prim.Native.Nat.{_-_}
-use native.Mathlib.Omega.{arith}
 use lib.ListN.{length}
 use borrow.Author.Needs.{needs}
 use Rattle.definitions.proofs.Filling.{ClearedTo, clear-start, clear-step, clear-end}
