@@ -1,2 +1,2 @@
 -- Laws that the proofs cite.
-pub mod Sets
+pub mod Parts
