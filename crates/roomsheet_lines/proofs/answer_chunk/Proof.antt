@@ -3,9 +3,9 @@
 use mathlib.Core.Path.{sym}
 use lib.Seq.{length-take-le}
 use borrow.Author.Needs.{needs}
-use Rattle.roomsheet_chunks.proofs.Buffers.{used-within, moved-within, chunk-answered}
-use Rattle.roomsheet_chunks.proofs.answer_chunk.Statement.{statement}
-use Rattle.roomsheet_chunks.proofs.answer_chunk.Tie as tie
+use Rattle.roomsheet_lines.proofs.Buffers.{used-within, moved-within, chunk-answered}
+use Rattle.roomsheet_lines.proofs.answer_chunk.Statement.{statement}
+use Rattle.roomsheet_lines.proofs.answer_chunk.Tie as tie
 
 slice-aggregate-answer-lines : tie.Need-slice-aggregate-answer-lines
 slice-aggregate-answer-lines c = sym (length-take-le _ _ (c .before .before .before .pre))

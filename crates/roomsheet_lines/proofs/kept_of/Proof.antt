@@ -2,8 +2,8 @@
 -- Assumes nothing.
 use native.Mathlib.Omega.{arith}
 use borrow.Author.Needs.{needs}
-use Rattle.roomsheet_chunks.proofs.kept_of.Statement.{statement}
-use Rattle.roomsheet_chunks.proofs.kept_of.Tie as tie
+use Rattle.roomsheet_lines.proofs.kept_of.Statement.{statement}
+use Rattle.roomsheet_lines.proofs.kept_of.Tie as tie
 
 returns : tie.Need-returns
 returns c = rw (c .before .if1 .taken) (omega arith)

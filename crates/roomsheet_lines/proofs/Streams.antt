@@ -14,11 +14,12 @@ use lib.Seq.{length-take-le}
 use borrow.Author.Tests.{lt-leb}
 use Rattle.definitions.specs.Sequences.{joined}
 use Rattle.definitions.specs.Roomsheet.{Text, decimalText, wellFormed, lineAnswer, roomsheet}
+use Rattle.definitions.proofs.Roomsheet.{lineAnswer-malformed}
 use Rattle.roomsheet_parse.specs.Parts.{upTo, past, Without}
 use Rattle.roomsheet_parse.proofs.Parts.{past-whole, without-take}
 use Rattle.roomsheet_lines.specs.Answered.{Answered}
 use Rattle.roomsheet_lines.proofs.Texts.{lineText, roomsheet-nil, roomsheet-cons, roomsheet-first}
-use Rattle.roomsheet_chunks.specs.Chunks.{Run, ended, fed}
+use Rattle.roomsheet_lines.specs.Answered.{Run, ended, fed}
 
 pub roomsheet-none : (t : Text) → length t ≡ 0 → roomsheet t ≡ []
 roomsheet-none [] e = roomsheet-nil
@@ -33,8 +34,8 @@ roomsheet-last (c ∷ a) h w =
 -- ---- a line that is too long
 
 lineAnswer-long : (line : Text) → 80 < length line → lineAnswer line ≡ decimalText 11
-unfolding lineAnswer wellFormed
-lineAnswer-long line h = rw (lt-leb (length line) 80 h)
+unfolding wellFormed
+lineAnswer-long line h = lineAnswer-malformed line (rw (lt-leb (length line) 80 h))
 
 roomsheet-long : (p t : Text) → Without 10 p → 80 < length p → roomsheet (p ++ t) ≡ (decimalText 11 ++ (10 ∷ [])) ++ roomsheet (past 10 t)
 roomsheet-long [] t w h = let z : ⊥ = omega arith in absurd z

@@ -15,11 +15,11 @@ use lib.ListN.{length, getD, take, drop, set, length-drop, length-set, take-appe
 use lib.Seq.{length-take-le, take-all, take-append-le, drop-append-le, take-suc, take-suc-set, getD-drop, getD-set-other}
 use Rattle.definitions.specs.Roomsheet.{Text}
 use Rattle.roomsheet_parse.proofs.Parts.{without-take}
 use Rattle.roomsheet_lines.specs.Answered.{Answered, LinesAnswered}
 use Rattle.roomsheet_lines.specs.declared.Lines.{Lines}
 use Rattle.roomsheet_lines.proofs.Texts.{answered-then}
-use Rattle.roomsheet_chunks.specs.Chunks.{ChunkAnswered}
-use Rattle.roomsheet_chunks.proofs.Streams.{answered-cut}
+use Rattle.roomsheet_lines.specs.Answered.{ChunkAnswered}
+use Rattle.roomsheet_lines.proofs.Streams.{answered-cut}
 
 pub record Moving (before text : List ℕ) (from count i : ℕ) : Type 0 where
   pub i-le : i ≤ count

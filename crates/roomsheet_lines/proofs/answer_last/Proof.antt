@@ -3,10 +3,10 @@
 use mathlib.Core.Path.{sym, _∙_}
 use native.Mathlib.Omega.{arith}
 use borrow.Author.Needs.{needs}
 use Rattle.roomsheet_lines.proofs.Texts.{lineText-le}
-use Rattle.roomsheet_chunks.proofs.Streams.{roomsheet-none, roomsheet-last}
-use Rattle.roomsheet_chunks.proofs.answer_last.Statement.{statement}
-use Rattle.roomsheet_chunks.proofs.answer_last.Tie as tie
+use Rattle.roomsheet_lines.proofs.Streams.{roomsheet-none, roomsheet-last}
+use Rattle.roomsheet_lines.proofs.answer_last.Statement.{statement}
+use Rattle.roomsheet_lines.proofs.answer_last.Tie as tie
 
 returns : tie.Need-returns
 returns c = (omega arith, sym (roomsheet-none _ (c .if1 .taken)))
