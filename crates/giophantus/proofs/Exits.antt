@@ -1,41 +1,45 @@
--- What the limits and the lengths leave, from the answers of the functions behind them.
+-- What every export leaves, from what the set's constructor answered.
+--
+--   refused-arm          a refused set: its number, and nothing is touched
+--   refused-value, accepted-value     both arms of an export that itself writes the values
+--   degrees-most         the degrees of an accepted set;  count-most: so it has at most 15 monomials
+-- An accepted set is the one named (checked-accepted), so the call behind keeps the export's promise.
 -- Assumes nothing.
-use Prim.Native.Nat.{ℕ, zero, suc}
+use Prim.Native.Nat.{ℕ, _≤_}
 use mathlib.Core.Path.{_≡_, refl, sym, ap, _∙_}
-use mathlib.Core.List.{[]}
-use Rattle.definitions.specs.Refusals.{Answer, untouched, accepted, firstRefusal, number, output}
-use Rattle.definitions.specs.Parameters.{Parameters, Limits, Lengths, LimitsExit, LengthsExit, setTests, secretLength, publicLength, messageLength, ciphertextLength, workLength, limitsAnswer, limitsExit, lengthsAnswer, lengthsExit}
-use Rattle.definitions.proofs.Refusals.{answer-untouched, answer-accepted}
+use mathlib.Core.Bool.{Bool}
+use mathlib.Core.List.{List, []}
+use Rattle.definitions.specs.Refusals.{Test, Answer, untouched, accepted, firstRefusal, answer}
+use Rattle.definitions.specs.Parameters.{Parameters, setTests, monomialCount}
+use Rattle.definitions.specs.Calls.{lengthTests}
+use Rattle.definitions.proofs.Refusals.{answer-untouched-at, answer-accepted}
+use Rattle.definitions.proofs.Parameters.{accepted-set, key-degree-most, mask-degree-most}
+use Rattle.definitions.proofs.Exits.{exit-set}
+use Rattle.lengths.proofs.Bounds.{monomialCount-le}
+use Rattle.parameters.specs.Answers.{setFrom, setAnswer, checkedAs}
+use Rattle.parameters.specs.declared.Parameters as Struct
+use Rattle.parameters.specs.declared.Checked.{Checked}
+use Rattle.parameters.proofs.Answers.{checked-accepted, checked-refused}
 
-pub limits-leave : (p : Parameters) (a : Answer Limits) (old : Limits) → a ≡ limitsAnswer p
-    → _≡_ {A = LimitsExit} (record { refusal = number a; limits = output (λ l. l) a old }) (limitsExit p old)
-unfolding limitsExit
-limits-leave p a old e = ap (λ (x : Answer Limits). record { refusal = number x; limits = output (λ l. l) x old }) e
+module _ (s : Parameters) {r : Checked} (e : checkedAs r ≡ setAnswer s) where
+  module _ {A E : Type 0} (leaves : Answer A → E) where
+    pub refused-arm : (exact : Bool) (later : List Test) (a : A) {k : ℕ} → r ≡ Checked.Refused k
+        → leaves (untouched k) ≡ leaves (answer (lengthTests s exact) later a)
+    refused-arm exact later a same = let told = checked-refused s e same in exit-set leaves s exact later a (told .0) (told .1)
 
-lengths-leave : (p : Parameters) (a : Answer Lengths) (old : Lengths) → a ≡ lengthsAnswer p
-    → _≡_ {A = LengthsExit} (record { refusal = number a; lengths = output (λ l. l) a old }) (lengthsExit p old)
-unfolding lengthsExit
-lengths-leave p a old e = ap (λ (x : Answer Lengths). record { refusal = number x; lengths = output (λ l. l) x old }) e
+    pub refused-value : (a : A) {k : ℕ} → r ≡ Checked.Refused k → leaves (untouched k) ≡ leaves (answer (setTests s) [] a)
+    refused-value a {k} same =
+        let told = checked-refused s e same in ap leaves (sym (answer-untouched-at (setTests s) [] a k (told .1) (sym (told .0))))
 
-pub lengths-refused : (p : Parameters) (r : ℕ) (old : Lengths) → r ≡ firstRefusal (setTests p) → (r ≡ 0 → ⊥)
-    → _≡_ {A = LengthsExit} (record { refusal = r; lengths = old }) (lengthsExit p old)
-lengths-refused p zero old e h = absurd (h refl)
-lengths-refused p (suc k) old e h =
-    lengths-leave p (untouched (suc k)) old (sym (unfold lengthsAnswer in answer-untouched (setTests p) [] _ k (sym e)))
+    pub accepted-value : (value : Parameters → A) {p : Struct.Parameters} → r ≡ Checked.Accepted p
+        → (x : A) → x ≡ value (setFrom p) → leaves (accepted x) ≡ leaves (answer (setTests s) [] (value s))
+    unfolding firstRefusal
+    accepted-value value same x is =
+        let told = checked-accepted s e same in
+        ap leaves (ap (λ y. accepted y) (is ∙ ap value (told .1)) ∙ sym (answer-accepted (setTests s) [] (value s) (told .0) refl))
 
--- the lengths of a set
-abbrev pub lengthsFor : Parameters → Lengths
-lengthsFor p =
-    record {
-      secret = secretLength p;
-      public = publicLength p;
-      message = messageLength p;
-      ciphertext = ciphertextLength p;
-      work = workLength p;
-    }
+  pub degrees-most : {p : Struct.Parameters} → r ≡ Checked.Accepted p → (s .dx ≤ 2) × (s .dr ≤ 2)
+  degrees-most same = let set = accepted-set s (checked-accepted s e same .0) in (key-degree-most s set, mask-degree-most s set)
 
-pub lengths-accepted : (p : Parameters) (old new : Lengths) → firstRefusal (setTests p) ≡ 0 → new ≡ lengthsFor p
-    → _≡_ {A = LengthsExit} (record { refusal = 0; lengths = new }) (lengthsExit p old)
-lengths-accepted p old new e same =
-    ap (λ (x : Lengths). record { refusal = 0; lengths = x }) same
-    ∙ lengths-leave p (accepted (lengthsFor p)) old (sym (unfold lengthsAnswer in answer-accepted (setTests p) [] (lengthsFor p) e (unfold firstRefusal in refl)))
+pub count-most : (d : ℕ) {m : ℕ} → m ≡ monomialCount d → d ≤ 4 → m ≤ 15
+count-most d e h = rw e (monomialCount-le d h)

@@ -1,7 +1,9 @@
 // The conversions of the C interface: octets to coefficient words and back.
-ghost use mathlib.Core.Path.{_≡_};
-ghost use Rattle.definitions.specs.Conversions.{elementFromExit, elementToExit, publicFromExit, publicToExit, ciphertextFromExit, ciphertextToExit, smallFromExit, smallToExit};
+ghost use Prim.Native.Nat.{_+_};
+ghost use Rattle.definitions.specs.Parameters.{monomialCount};
+ghost use Rattle.definitions.specs.Contracts.{Decodes, Encodes, Unpacks, Packs};
 ghost use Rattle.giophantus.specs.Interface.{set};
+use parameters::Checked;
 use parameters::Parameters;
 
 // A ring element: n coefficients of qlen octets each.
@@ -16,17 +18,12 @@ pub extern "C" fn giophantus_element_from_octets(
     octets: &[u8],
     words: &mut [u32],
 ) -> u32
-    ensures { λ r. ⌜ record { refusal = r; converted = now (words .exit) } ≡ elementFromExit (set l q n dx dr mlen) (now (octets .entry)) (now (words .entry)) ⌝ }
+    ensures { λ r. ⌜ Decodes (set l q n dx dr mlen) 1 octets words r ⌝ }
 {
-    let p = Parameters {
-        l,
-        q,
-        n,
-        dx,
-        dr,
-        mlen,
-    };
-    conversions::element_from_octets(p, octets, words)
+    match Parameters::new(l, q, n, dx, dr, mlen) {
+        Checked::Accepted(p) => conversions::decode(p, 1, octets, words),
+        Checked::Refused(k) => k,
+    }
 }
 
 #[no_mangle]
@@ -40,17 +37,12 @@ pub extern "C" fn giophantus_element_to_octets(
     words: &[u32],
     octets: &mut [u8],
 ) -> u32
-    ensures { λ r. ⌜ record { refusal = r; converted = now (octets .exit) } ≡ elementToExit (set l q n dx dr mlen) (now (words .entry)) (now (octets .entry)) ⌝ }
+    ensures { λ r. ⌜ Encodes (set l q n dx dr mlen) 1 words octets r ⌝ }
 {
-    let p = Parameters {
-        l,
-        q,
-        n,
-        dx,
-        dr,
-        mlen,
-    };
-    conversions::element_to_octets(p, words, octets)
+    match Parameters::new(l, q, n, dx, dr, mlen) {
+        Checked::Accepted(p) => conversions::encode(p, 1, words, octets),
+        Checked::Refused(k) => k,
+    }
 }
 
 // A public key: its elements in monomial order.
@@ -65,17 +57,12 @@ pub extern "C" fn giophantus_public_key_from_octets(
     octets: &[u8],
     words: &mut [u32],
 ) -> u32
-    ensures { λ r. ⌜ record { refusal = r; converted = now (words .exit) } ≡ publicFromExit (set l q n dx dr mlen) (now (octets .entry)) (now (words .entry)) ⌝ }
+    ensures { λ r. ⌜ Decodes (set l q n dx dr mlen) (monomialCount dx) octets words r ⌝ }
 {
-    let p = Parameters {
-        l,
-        q,
-        n,
-        dx,
-        dr,
-        mlen,
-    };
-    conversions::public_key_from_octets(p, octets, words)
+    match Parameters::new(l, q, n, dx, dr, mlen) {
+        Checked::Accepted(p) => conversions::decode(p, lengths::monomial_count(dx), octets, words),
+        Checked::Refused(k) => k,
+    }
 }
 
 #[no_mangle]
@@ -89,17 +76,12 @@ pub extern "C" fn giophantus_public_key_to_octets(
     words: &[u32],
     octets: &mut [u8],
 ) -> u32
-    ensures { λ r. ⌜ record { refusal = r; converted = now (octets .exit) } ≡ publicToExit (set l q n dx dr mlen) (now (words .entry)) (now (octets .entry)) ⌝ }
+    ensures { λ r. ⌜ Encodes (set l q n dx dr mlen) (monomialCount dx) words octets r ⌝ }
 {
-    let p = Parameters {
-        l,
-        q,
-        n,
-        dx,
-        dr,
-        mlen,
-    };
-    conversions::public_key_to_octets(p, words, octets)
+    match Parameters::new(l, q, n, dx, dr, mlen) {
+        Checked::Accepted(p) => conversions::encode(p, lengths::monomial_count(dx), words, octets),
+        Checked::Refused(k) => k,
+    }
 }
 
 // A ciphertext: its elements in monomial order.
@@ -114,17 +96,17 @@ pub extern "C" fn giophantus_ciphertext_from_octets(
     octets: &[u8],
     words: &mut [u32],
 ) -> u32
-    ensures { λ r. ⌜ record { refusal = r; converted = now (words .exit) } ≡ ciphertextFromExit (set l q n dx dr mlen) (now (octets .entry)) (now (words .entry)) ⌝ }
+    ensures { λ r. ⌜ Decodes (set l q n dx dr mlen) (monomialCount (dx + dr)) octets words r ⌝ }
 {
-    let p = Parameters {
-        l,
-        q,
-        n,
-        dx,
-        dr,
-        mlen,
-    };
-    conversions::ciphertext_from_octets(p, octets, words)
+    match Parameters::new(l, q, n, dx, dr, mlen) {
+        Checked::Accepted(p) => conversions::decode(
+            p,
+            lengths::monomial_count(dx + dr),
+            octets,
+            words,
+        ),
+        Checked::Refused(k) => k,
+    }
 }
 
 #[no_mangle]
@@ -138,17 +120,17 @@ pub extern "C" fn giophantus_ciphertext_to_octets(
     words: &[u32],
     octets: &mut [u8],
 ) -> u32
-    ensures { λ r. ⌜ record { refusal = r; converted = now (octets .exit) } ≡ ciphertextToExit (set l q n dx dr mlen) (now (words .entry)) (now (octets .entry)) ⌝ }
+    ensures { λ r. ⌜ Encodes (set l q n dx dr mlen) (monomialCount (dx + dr)) words octets r ⌝ }
 {
-    let p = Parameters {
-        l,
-        q,
-        n,
-        dx,
-        dr,
-        mlen,
-    };
-    conversions::ciphertext_to_octets(p, words, octets)
+    match Parameters::new(l, q, n, dx, dr, mlen) {
+        Checked::Accepted(p) => conversions::encode(
+            p,
+            lengths::monomial_count(dx + dr),
+            words,
+            octets,
+        ),
+        Checked::Refused(k) => k,
+    }
 }
 
 // A small element, packed.
@@ -163,17 +145,12 @@ pub extern "C" fn giophantus_small_from_octets(
     octets: &[u8],
     words: &mut [u32],
 ) -> u32
-    ensures { λ r. ⌜ record { refusal = r; converted = now (words .exit) } ≡ smallFromExit (set l q n dx dr mlen) (now (octets .entry)) (now (words .entry)) ⌝ }
+    ensures { λ r. ⌜ Unpacks (set l q n dx dr mlen) 1 octets words r ⌝ }
 {
-    let p = Parameters {
-        l,
-        q,
-        n,
-        dx,
-        dr,
-        mlen,
-    };
-    small_conversions::small_from_octets(p, octets, words)
+    match Parameters::new(l, q, n, dx, dr, mlen) {
+        Checked::Accepted(p) => conversions::unpack(p, 1, octets, words),
+        Checked::Refused(k) => k,
+    }
 }
 
 #[no_mangle]
@@ -187,15 +164,49 @@ pub extern "C" fn giophantus_small_to_octets(
     words: &[u32],
     octets: &mut [u8],
 ) -> u32
-    ensures { λ r. ⌜ record { refusal = r; converted = now (octets .exit) } ≡ smallToExit (set l q n dx dr mlen) (now (words .entry)) (now (octets .entry)) ⌝ }
+    ensures { λ r. ⌜ Packs (set l q n dx dr mlen) 1 words octets r ⌝ }
 {
-    let p = Parameters {
-        l,
-        q,
-        n,
-        dx,
-        dr,
-        mlen,
-    };
-    small_conversions::small_to_octets(p, words, octets)
+    match Parameters::new(l, q, n, dx, dr, mlen) {
+        Checked::Accepted(p) => conversions::pack(p, 1, words, octets),
+        Checked::Refused(k) => k,
+    }
+}
+
+// A secret key: its two small elements, packed.
+#[no_mangle]
+pub extern "C" fn giophantus_secret_key_from_octets(
+    l: u32,
+    q: u32,
+    n: u32,
+    dx: u32,
+    dr: u32,
+    mlen: u32,
+    octets: &[u8],
+    words: &mut [u32],
+) -> u32
+    ensures { λ r. ⌜ Unpacks (set l q n dx dr mlen) 2 octets words r ⌝ }
+{
+    match Parameters::new(l, q, n, dx, dr, mlen) {
+        Checked::Accepted(p) => conversions::unpack(p, 2, octets, words),
+        Checked::Refused(k) => k,
+    }
+}
+
+#[no_mangle]
+pub extern "C" fn giophantus_secret_key_to_octets(
+    l: u32,
+    q: u32,
+    n: u32,
+    dx: u32,
+    dr: u32,
+    mlen: u32,
+    words: &[u32],
+    octets: &mut [u8],
+) -> u32
+    ensures { λ r. ⌜ Packs (set l q n dx dr mlen) 2 words octets r ⌝ }
+{
+    match Parameters::new(l, q, n, dx, dr, mlen) {
+        Checked::Accepted(p) => conversions::pack(p, 2, words, octets),
+        Checked::Refused(k) => k,
+    }
 }

@@ -1,17 +1,15 @@
 // The C interface (include/giophantus.h): every call begins with the six numbers of the set, in the order l q n dx dr mlen, and answers
 // the refusal number, 0 at success. Nothing here asks anything of its callers: unfit input is refused by document 01's table, and a
-// refusal leaves every output as it was. Each contract is the equation of the call behind it: the definitions' keygenExit, isZeroExit,
-// encryptExit, addExit, decryptExit, limitsExit, lengthsExit, elementFromExit and the like of the conversions,
-// and setTests for the check.
+// refusal leaves every output as it was. Each export makes the set by its constructor and hands it to the call behind it; its contract is the
+// definitions' promise of that call (definitions/specs/Contracts.antt) at the set that the six numbers name.
 pub mod conversion;
 
 ghost use mathlib.Core.Path.{_≡_};
 ghost use Rattle.definitions.specs.Refusals.{firstRefusal};
-ghost use Rattle.definitions.specs.Parameters.{setTests, LimitsExit, limitsExit, LengthsExit, lengthsExit};
-ghost use Rattle.definitions.specs.Calls.{KeygenExit, keygenExit, IsZeroExit, isZeroExit, EncryptExit, encryptExit, AddExit, addExit, DecryptExit, decryptExit};
-ghost use Rattle.giophantus.specs.Interface.{set, limitsOf, lengthsOf};
+ghost use Rattle.definitions.specs.Parameters.{setTests};
+ghost use Rattle.definitions.specs.Contracts.{Bounds, Measures, Makes, Tests, Encrypts, Adds, Decrypts};
+ghost use Rattle.giophantus.specs.Interface.{set};
 use parameters::Checked;
-use parameters::LimitsAnswer;
 use parameters::Parameters;
 
 // The set's refusal, 0 where it is accepted.
@@ -21,7 +19,7 @@ pub extern "C" fn giophantus_check(l: u32, q: u32, n: u32, dx: u32, dr: u32, mle
 {
     match Parameters::new(l, q, n, dx, dr, mlen) {
         Checked::Accepted(_) => 0,
-        Checked::Refused(k) => k,
+        Checked::Refused(refusal) => refusal,
     }
 }
 
@@ -37,22 +35,16 @@ pub extern "C" fn giophantus_limits(
     bound: &mut u32,
     headroom: &mut u32,
 ) -> u32
-    ensures { λ r. ⌜ _≡_ {A = LimitsExit} (record { refusal = r; limits = limitsOf (now (bound .exit)) (now (headroom .exit)) }) (limitsExit (set l q n dx dr mlen) (limitsOf (now (bound .entry)) (now (headroom .entry)))) ⌝ }
+    ensures { λ r. ⌜ Bounds (set l q n dx dr mlen) bound headroom r ⌝ }
 {
-    match parameters::limits(Parameters {
-        l,
-        q,
-        n,
-        dx,
-        dr,
-        mlen,
-    }) {
-        LimitsAnswer::Accepted(x) => {
+    match Parameters::new(l, q, n, dx, dr, mlen) {
+        Checked::Accepted(p) => {
+            let x = parameters::limits(p);
             *bound = x.bound;
             *headroom = x.headroom;
             0
         }
-        LimitsAnswer::Refused(k) => k,
+        Checked::Refused(k) => k,
     }
 }
 
@@ -71,26 +63,19 @@ pub extern "C" fn giophantus_lengths(
     ciphertext: &mut u64,
     work: &mut u64,
 ) -> u32
-    ensures { λ r. ⌜ _≡_ {A = LengthsExit} (record { refusal = r; lengths = lengthsOf (now («secret_key» .exit)) (now («public_key» .exit)) (now (message .exit)) (now (ciphertext .exit)) (now (work .exit)) }) (lengthsExit (set l q n dx dr mlen) (lengthsOf (now («secret_key» .entry)) (now («public_key» .entry)) (now (message .entry)) (now (ciphertext .entry)) (now (work .entry)))) ⌝ }
+    ensures { λ r. ⌜ Measures (set l q n dx dr mlen) «secret_key» «public_key» message ciphertext work r ⌝ }
 {
-    let p = Parameters {
-        l,
-        q,
-        n,
-        dx,
-        dr,
-        mlen,
-    };
-    let refused = parameters::refusal(p);
-    if refused != 0 {
-        return refused;
+    match Parameters::new(l, q, n, dx, dr, mlen) {
+        Checked::Accepted(p) => {
+            *secret_key = lengths::secret_length(p) as u64;
+            *public_key = lengths::public_length(p) as u64;
+            *message = lengths::message_length(p) as u64;
+            *ciphertext = lengths::ciphertext_length(p) as u64;
+            *work = lengths::work_length(p) as u64;
+            0
+        }
+        Checked::Refused(k) => k,
     }
-    *secret_key = lengths::secret_length(p) as u64;
-    *public_key = lengths::public_length(p) as u64;
-    *message = lengths::message_length(p) as u64;
-    *ciphertext = lengths::ciphertext_length(p) as u64;
-    *work = lengths::work_length(p) as u64;
-    0
 }
 
 // A secret key and its public key from random octets, and the octets used.
@@ -108,17 +93,19 @@ pub extern "C" fn giophantus_keygen(
     work: &mut [u32],
     used: &mut u64,
 ) -> u32
-    ensures { λ r. ⌜ _≡_ {A = KeygenExit} (record { refusal = r; secret = now («secret_key» .exit); public = now («public_key» .exit); used = now (used .exit); work = now (work .exit) }) (keygenExit (set l q n dx dr mlen) (now (random .entry)) (now («secret_key» .entry)) (now («public_key» .entry)) (now (used .entry)) (now (work .entry))) ⌝ }
+    ensures { λ r. ⌜ Makes (set l q n dx dr mlen) random «secret_key» «public_key» work used r ⌝ }
 {
-    let p = Parameters {
-        l,
-        q,
-        n,
-        dx,
-        dr,
-        mlen,
-    };
-    key_generation::keygen(p, random, secret_key, public_key, work, used)
+    match Parameters::new(l, q, n, dx, dr, mlen) {
+        Checked::Accepted(p) => key_generation::keygen(
+            p,
+            random,
+            secret_key,
+            public_key,
+            work,
+            used,
+        ),
+        Checked::Refused(k) => k,
+    }
 }
 
 // Whether a secret key is a zero of a public key: 1 yes, 0 no.
@@ -135,17 +122,12 @@ pub extern "C" fn giophantus_is_zero(
     work: &mut [u32],
     zero: &mut u32,
 ) -> u32
-    ensures { λ r. ⌜ _≡_ {A = IsZeroExit} (record { refusal = r; zero = now (zero .exit); work = now (work .exit) }) (isZeroExit (set l q n dx dr mlen) (now («secret_key» .entry)) (now («public_key» .entry)) (now (zero .entry)) (now (work .entry))) ⌝ }
+    ensures { λ r. ⌜ Tests (set l q n dx dr mlen) «secret_key» «public_key» work zero r ⌝ }
 {
-    let p = Parameters {
-        l,
-        q,
-        n,
-        dx,
-        dr,
-        mlen,
-    };
-    zero_test::is_zero(p, secret_key, public_key, work, zero)
+    match Parameters::new(l, q, n, dx, dr, mlen) {
+        Checked::Accepted(p) => zero_test::is_zero(p, secret_key, public_key, work, zero),
+        Checked::Refused(k) => k,
+    }
 }
 
 // A ciphertext of a message under a public key, and the octets used.
@@ -164,17 +146,20 @@ pub extern "C" fn giophantus_encrypt(
     work: &mut [u32],
     used: &mut u64,
 ) -> u32
-    ensures { λ r. ⌜ _≡_ {A = EncryptExit} (record { refusal = r; ciphertext = now (ciphertext .exit); used = now (used .exit); work = now (work .exit) }) (encryptExit (set l q n dx dr mlen) (now («public_key» .entry)) (now (message .entry)) (now (random .entry)) (now (ciphertext .entry)) (now (used .entry)) (now (work .entry))) ⌝ }
+    ensures { λ r. ⌜ Encrypts (set l q n dx dr mlen) «public_key» message random ciphertext work used r ⌝ }
 {
-    let p = Parameters {
-        l,
-        q,
-        n,
-        dx,
-        dr,
-        mlen,
-    };
-    encryption::encrypt(p, public_key, message, random, ciphertext, work, used)
+    match Parameters::new(l, q, n, dx, dr, mlen) {
+        Checked::Accepted(p) => encryption::encrypt(
+            p,
+            public_key,
+            message,
+            random,
+            ciphertext,
+            work,
+            used,
+        ),
+        Checked::Refused(k) => k,
+    }
 }
 
 // The sum of two ciphertexts, which may be one buffer.
@@ -190,17 +175,12 @@ pub extern "C" fn giophantus_add(
     b: &[u8],
     sum: &mut [u8],
 ) -> u32
-    ensures { λ r. ⌜ _≡_ {A = AddExit} (record { refusal = r; sum = now (sum .exit) }) (addExit (set l q n dx dr mlen) (now (a .entry)) (now (b .entry)) (now (sum .entry))) ⌝ }
+    ensures { λ r. ⌜ Adds (set l q n dx dr mlen) a b sum r ⌝ }
 {
-    let p = Parameters {
-        l,
-        q,
-        n,
-        dx,
-        dr,
-        mlen,
-    };
-    addition::add(p, a, b, sum)
+    match Parameters::new(l, q, n, dx, dr, mlen) {
+        Checked::Accepted(p) => addition::add(p, a, b, sum),
+        Checked::Refused(k) => k,
+    }
 }
 
 // The message of a ciphertext, or of a sum of ciphertexts.
@@ -217,15 +197,10 @@ pub extern "C" fn giophantus_decrypt(
     message: &mut [u8],
     work: &mut [u32],
 ) -> u32
-    ensures { λ r. ⌜ _≡_ {A = DecryptExit} (record { refusal = r; message = now (message .exit); work = now (work .exit) }) (decryptExit (set l q n dx dr mlen) (now («secret_key» .entry)) (now (ciphertext .entry)) (now (message .entry)) (now (work .entry))) ⌝ }
+    ensures { λ r. ⌜ Decrypts (set l q n dx dr mlen) «secret_key» ciphertext message work r ⌝ }
 {
-    let p = Parameters {
-        l,
-        q,
-        n,
-        dx,
-        dr,
-        mlen,
-    };
-    decryption::decrypt(p, secret_key, ciphertext, message, work)
+    match Parameters::new(l, q, n, dx, dr, mlen) {
+        Checked::Accepted(p) => decryption::decrypt(p, secret_key, ciphertext, message, work),
+        Checked::Refused(k) => k,
+    }
 }

@@ -1,6 +1,7 @@
 -- What the constructor's answer tells of the set that the six numbers name.
 --
 --   checked-accepted     an accepted set passes every test, and is the one named
+--   checked-fits         so the set that came back does
 --   checked-refused      a refusal is the number of the first test that applies, and not 0
 -- Assumes nothing.
 use Prim.Native.Nat.{ℕ, zero, suc}
@@ -25,6 +26,9 @@ module _ (s : Parameters) {r : Checked} (e : checkedAs r ≡ setAnswer s) where
   checked-accepted {p} same =
       let only = answer-accepted-only (setTests s) [] s (setFrom p) (sym e ∙ ap checkedAs same) in
       (only .0, sym (only .2))
+
+  pub checked-fits : {p : Struct.Parameters} → r ≡ Checked.Accepted p → AcceptedSet (setFrom p)
+  checked-fits same = let told = checked-accepted same in rw (told .1) (told .0)
 
   pub checked-refused : {k : ℕ} → r ≡ Checked.Refused k → (k ≡ firstRefusal (setTests s)) × (k ≡ 0 → ⊥)
   unfolding setAnswer answer firstRefusal

@@ -1,34 +1,28 @@
 -- A text is answered line after line.
 --
---   lineText             an answer and its newline;  lineText-le: at most 33 octets
+--   lineText             an answer and its newline;  lineAnswer-le, lineText-le: at most 32 octets, and 33
 --   roomsheet-line       an ended line is answered first, then the rest
 --   answered-..          what was answered, and what is left: nothing yet, one after the other, and one line more
 -- Assumes nothing.
 use Prim.Native.Nat.{ℕ, _≤_, _<_}
 use native.Mathlib.Omega.{arith}
 use mathlib.Core.Path.{_≡_, refl, sym, ap, ap₂, _∙_}
-use mathlib.Core.Bool.{Bool, true, false, cond}
 use mathlib.Core.List.{[], _∷_, _++_, append-nil, append-assoc}
 use lib.ListN.{length, length-append}
 use Rattle.definitions.specs.Sequences.{joined}
-use Rattle.definitions.specs.Parameters.{limitsAnswer}
-use Rattle.definitions.specs.Roomsheet.{Text, linesOf, decimalText, wellFormed, numbersOf, setOf, limitsText, lineAnswer, roomsheet}
+use Rattle.definitions.specs.Roomsheet.{Text, linesOf, lineLimits, lineAnswer, roomsheet}
 use Rattle.roomsheet_parse.specs.Parts.{upTo, past, Without}
 use Rattle.roomsheet_parse.proofs.Parts.{upTo-hit, past-hit, upTo-append, past-append, upTo-without, upTo-past, linesOf-cons}
-use Rattle.roomsheet_print.proofs.Printing.{decimalText-le, limitsText-le}
+use Rattle.roomsheet_print.proofs.Printing.{limitsText-le}
 use Rattle.roomsheet_lines.specs.Answered.{Answered}
 
 -- an answer and its newline
 abbrev pub lineText : Text → Text
 lineText line = lineAnswer line ++ (10 ∷ [])
 
-lineAnswer-le : (line : Text) → length (lineAnswer line) ≤ 32
+pub lineAnswer-le : (line : Text) → length (lineAnswer line) ≤ 32
 unfolding lineAnswer
-lineAnswer-le line = go (wellFormed 6 line)
-  where
-    go : (t : Bool) → length (cond t (limitsText (limitsAnswer (setOf (numbersOf line)))) (decimalText 11)) ≤ 32
-    go true = limitsText-le (limitsAnswer (setOf (numbersOf line)))
-    go false = omega (arith, decimalText-le 11)
+lineAnswer-le line = limitsText-le (lineLimits line)
 
 pub lineText-le : (line : Text) → length (lineText line) ≤ 33
 lineText-le line = omega (arith, lineAnswer-le line, length-append (lineAnswer line) (10 ∷ []))

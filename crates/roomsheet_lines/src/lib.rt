@@ -1,15 +1,19 @@
-// The ended lines of a text, judged and answered one after the other as 01, "roomsheet", says, as far as a buffer has room. A malformed
-// line is refusal 11. The contracts cite the definitions' lineAnswer and roomsheet.
-use parameters::LimitsAnswer;
+// The lines of a text, answered as 01, "roomsheet", says, however the text is cut: the ended lines in front of a buffer are answered as far as
+// there is room, what is left is kept for the next read, and a last line may lack its newline. A malformed line is refusal 11; refusals are
+// text here, as roomsheet prints them. The contracts cite the definitions' lineAnswer and roomsheet; proofs/Streams.antt shows that a whole
+// run prints roomsheet of the whole input.
+use parameters::Checked;
 use parameters::Parameters;
+use parameters::refusals;
 ghost use mathlib.Core.Path.{_≡_};
+ghost use mathlib.Core.Bool.{cond};
 ghost use mathlib.Core.List.{[], _∷_, _++_};
-ghost use Prim.Native.Nat.{_+_, _≤_};
-ghost use lib.ListN.{length};
-ghost use Rattle.definitions.specs.Roomsheet.{lineAnswer, limitsText};
-ghost use Rattle.parameters.specs.Answers.{limitsAs};
+ghost use Prim.Native.Nat.{_+_, _≤_, min};
+ghost use lib.ListN.{length, take, drop};
+ghost use Rattle.definitions.specs.Roomsheet.{lineAnswer, roomsheet};
+ghost use Rattle.roomsheet_parse.specs.Parts.{Without};
 ghost use Rattle.roomsheet_print.specs.Appended.{Appended};
-ghost use Rattle.roomsheet_lines.specs.Answered.{LinesAnswered};
+ghost use Rattle.roomsheet_lines.specs.Answered.{LinesAnswered, ChunkAnswered};
 
 // How far the ended lines of a text were answered; done where none is left.
 pub struct Lines {
@@ -18,35 +22,32 @@ pub struct Lines {
     pub done: bool,
 }
 
-// The limits of the set on a line, or the refusal, which is 11 where the line is malformed.
-fn judge_line(line: &[u8]) -> LimitsAnswer
-    ensures { λ r. ⌜ limitsText (limitsAs r) ≡ lineAnswer (now (line .entry)) ⌝ }
+// The answer to a line at a place of the buffer: the limits of its set, or the refusal, which is 11 where the line is malformed.
+fn put_answer(line: &[u8], out: &mut [u8], at: usize) -> usize
+    requires { ⌜ at + 32 ≤ length (now out) ⌝ }
+    ensures { λ r. ⌜ Appended (now (out .entry)) at (now (out .exit)) r (lineAnswer (now (line .entry))) ⌝ }
 {
-    let mut numbers = [0u32; 6];
-    if !roomsheet_parse::parse_numbers(line, 6, &mut numbers) {
-        return LimitsAnswer::Refused(parameters::refusals::LINE);
+    let mut x = [0u32; 6];
+    if !roomsheet_parse::parse_numbers(line, 6, &mut x) {
+        return roomsheet_print::put_number(out, at, refusals::LINE);
     }
-    parameters::limits(Parameters {
-        l: numbers[0],
-        q: numbers[1],
-        n: numbers[2],
-        dx: numbers[3],
-        dr: numbers[4],
-        mlen: numbers[5],
-    })
+    match Parameters::new(x[0], x[1], x[2], x[3], x[4], x[5]) {
+        Checked::Accepted(p) => roomsheet_print::put_limits(out, at, parameters::limits(p)),
+        Checked::Refused(k) => roomsheet_print::put_number(out, at, k),
+    }
 }
 
-// The answer to a line and a newline, at a place of the buffer; answers the place behind it.
-pub fn answer_line(line: &[u8], out: &mut [u8], at: usize) -> usize
+// The answer to a line and a newline; answers the place behind it.
+fn answer_line(line: &[u8], out: &mut [u8], at: usize) -> usize
     requires { ⌜ at + 33 ≤ length (now out) ⌝ }
     ensures { λ r. ⌜ Appended (now (out .entry)) at (now (out .exit)) r (lineAnswer (now (line .entry)) ++ (10 ∷ [])) ⌝ }
 {
-    let end = roomsheet_print::put_limits(out, at, judge_line(line));
+    let end = put_answer(line, out, at);
     roomsheet_print::put_octet(out, end, b'\n')
 }
 
 // Answers the ended lines of a text, as far as there is room.
-pub fn answer_lines(text: &[u8], out: &mut [u8]) -> Lines
+fn answer_lines(text: &[u8], out: &mut [u8]) -> Lines
     ensures { λ r. ⌜ LinesAnswered (now (text .entry)) r (now (out .exit)) ⌝ }
 {
     let mut used = 0;
@@ -68,4 +69,67 @@ pub fn answer_lines(text: &[u8], out: &mut [u8]) -> Lines
         written,
         done: false,
     }
+}
+
+// How far the text in front of a buffer was answered; the octets kept of it stand there now. Done where no ended line is left.
+pub struct Chunk {
+    pub kept: usize,
+    pub written: usize,
+    pub done: bool,
+}
+
+// A line that has this many octets is malformed, whatever follows: no more of it is kept.
+const KEPT_MOST: usize = 81;
+
+// Moves octets of a buffer to its front.
+fn move_front(text: &mut [u8], from: usize, count: usize)
+    requires { ⌜ from + count ≤ length (now text) ⌝ }
+    ensures { λ _. ⌜ take count (now (text .exit)) ≡ take count (drop from (now (text .entry))) ⌝ }
+{
+    let mut i = 0;
+    while i < count {
+        text[i] = text[from + i];
+        i += 1;
+    }
+}
+
+// How many octets are kept of the rest: of a line without its end, no more than show it malformed.
+fn kept_of(rest: usize, done: bool) -> usize
+    ensures { λ r. ⌜ r ≡ cond done (min rest 81) rest ⌝ }
+{
+    if done {
+        if KEPT_MOST < rest {
+            return KEPT_MOST;
+        }
+    }
+    rest
+}
+
+// Answers the ended lines of the text in front of a buffer, and moves what is left of it to the front.
+pub fn answer_chunk(text: &mut [u8], have: usize, out: &mut [u8]) -> Chunk
+    requires { ⌜ have ≤ length (now text) ⌝ }
+    ensures { λ r. ⌜ ChunkAnswered (take have (now (text .entry))) r (now (text .exit)) (now (out .exit)) ⌝ }
+{
+    let lines = answer_lines(&text[..have], out);
+    let used = lines.used;
+    let kept = kept_of(have - used, lines.done);
+    move_front(text, used, kept);
+    Chunk {
+        kept,
+        written: lines.written,
+        done: lines.done,
+    }
+}
+
+// Answers a last line that has no newline; one that is empty counts for nothing.
+pub fn answer_last(text: &[u8], out: &mut [u8]) -> usize
+    requires { ⌜ 33 ≤ length (now out) ⌝ }
+    requires { ⌜ Without 10 (now text) ⌝ }
+    ensures { λ r. ⌜ r ≤ length (now (out .exit)) ⌝ }
+    ensures { λ r. ⌜ take r (now (out .exit)) ≡ roomsheet (now (text .entry)) ⌝ }
+{
+    if text.len() == 0 {
+        return 0;
+    }
+    answer_line(text, out, 0)
 }

@@ -15,9 +15,9 @@ use mathlib.Core.Path.{_≡_, refl, sym, ap, ap₂, _∙_}
 use mathlib.Core.Bool.{Bool, true, false, cond}
 use mathlib.Core.List.{List, [], _∷_, _++_, append-assoc}
 use lib.Dec.{leb}
+use mir.Val.{boolByte}
 use lib.ListN.{length, take, drop, set, length-append, length-set}
 use lib.Seq.{take-suc-set, take-set-le, take-add, drop-cons, drop-set-lt, getD-set-same}
-use borrow.Author.Tests.{le-leb, lt-leb}
 use Rattle.definitions.specs.Sequences.{sum, howMany, tabulate}
 use Rattle.definitions.specs.Refusals.{Answer, untouched, refused, accepted}
 use Rattle.definitions.specs.Parameters.{Limits}
@@ -42,6 +42,15 @@ howMany-suc : (k : ℕ) (f : ℕ → Bool) → howMany (k + 1) f ≡ howMany k f
 unfolding howMany sum
 howMany-suc k f = rw (add-one k)
 
+-- a test as a number, as the code has it
+record OneOrNone (t : Bool) : Type 0 where
+  is : boolByte t ≡ cond t 1 0
+  most : cond t 1 0 ≤ 1
+
+one-or-none : (t : Bool) → OneOrNone t
+one-or-none true = record { is = refl; most = omega arith }
+one-or-none false = record { is = refl; most = omega arith }
+
 pub record Counting (x power digits k : ℕ) : Type 0 where
   pub within : k ≤ 9
   pub power-is : power ≡ 10 ^ suc k
@@ -59,26 +68,15 @@ module _ (x power digits k : ℕ) (t : Counting x power digits k) (more : k < 9)
   next-power : power * 10 ≡ 10 ^ suc (k + 1)
   next-power = rw (t .power-is, add-one k, pow-suc 10 (suc k))
 
-  pub counting-reached : power ≤ x → Counting x (power * 10) (digits + 1) (k + 1)
-  counting-reached h =
+  pub counting-next : Counting x (power * 10) (digits + boolByte (leb power x)) (k + 1)
+  counting-next =
+      let one : boolByte (leb power x) ≡ cond (leb (10 ^ suc k) x) 1 0
+      = one-or-none (leb power x) .is ∙ ap (λ (y : ℕ). cond (leb y x) 1 0) (t .power-is) in
       record {
         within = omega arith;
         power-is = next-power;
-        digits-are = rw
-            (howMany-suc k (λ i. leb (10 ^ suc i) x), le-leb (10 ^ suc k) x (omega arith))
-            (omega arith);
-        digits-le = omega arith;
-      }
-
-  pub counting-passed : x < power → Counting x (power * 10) digits (k + 1)
-  counting-passed h =
-      record {
-        within = omega arith;
-        power-is = next-power;
-        digits-are = rw
-            (howMany-suc k (λ i. leb (10 ^ suc i) x), lt-leb (10 ^ suc k) x (omega arith))
-            (omega arith);
-        digits-le = omega arith;
+        digits-are = omega (arith, t .digits-are, one, howMany-suc k (λ i. leb (10 ^ suc i) x));
+        digits-le = omega (arith, one, one-or-none (leb (10 ^ suc k) x) .most);
       }
 
 pub counting-end : (x power digits k : ℕ) → Counting x power digits k → 9 ≤ k → digits ≡ decimalLength x
@@ -87,14 +85,10 @@ counting-end x power digits k t h =
     let all : k ≡ 9 = omega arith in
     t .digits-are ∙ ap (λ (n : ℕ). suc (howMany n (λ i. leb (10 ^ suc i) x))) all
 
-cond-le : (t : Bool) → cond t 1 0 ≤ 1
-cond-le true = omega arith
-cond-le false = omega arith
-
 howMany-le : (n : ℕ) (f : ℕ → Bool) → howMany n f ≤ n
 unfolding howMany sum
 howMany-le zero f = omega arith
-howMany-le (suc n) f = omega (arith, howMany-le n f, cond-le (f n))
+howMany-le (suc n) f = omega (arith, howMany-le n f, one-or-none (f n) .most)
 
 pub decimalLength-le : (x : ℕ) → decimalLength x ≤ 10
 unfolding decimalLength

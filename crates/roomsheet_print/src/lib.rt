@@ -1,12 +1,13 @@
 // Writing roomsheet's answers (01, "roomsheet") into a buffer, each behind what it holds already. Nothing is refused: the caller sees to
 // the room. The contracts cite the definitions' decimalText and limitsText.
-use parameters::LimitsAnswer;
+use parameters::SetLimits;
 ghost use mathlib.Core.Path.{_≡_};
 ghost use mathlib.Core.List.{[], _∷_};
 ghost use Prim.Native.Nat.{_+_, _≤_};
 ghost use lib.ListN.{length};
+ghost use Rattle.definitions.specs.Refusals.{accepted};
 ghost use Rattle.definitions.specs.Roomsheet.{decimalLength, decimalText, limitsText};
-ghost use Rattle.parameters.specs.Answers.{limitsAs};
+ghost use Rattle.parameters.specs.Answers.{limitsFrom};
 ghost use Rattle.roomsheet_print.specs.Appended.{Appended};
 
 // The most octets that an answer takes: three numbers of 10 digits at most, two spaces and a newline.
@@ -20,9 +21,7 @@ fn decimal_length(x: u32) -> usize
     let mut digits = 1usize;
     let mut k = 0usize;
     while k < 9 {
-        if power <= x as u64 {
-            digits += 1;
-        }
+        digits += (power <= x as u64) as usize;
         power *= 10;
         k += 1;
     }
@@ -30,7 +29,7 @@ fn decimal_length(x: u32) -> usize
 }
 
 // A number in decimal at a place of the buffer; answers the place behind it. The digits are written from the last to the first.
-fn put_number(out: &mut [u8], at: usize, x: u32) -> usize
+pub fn put_number(out: &mut [u8], at: usize, x: u32) -> usize
     requires { ⌜ at + 10 ≤ length (now out) ⌝ }
     ensures { λ r. ⌜ Appended (now (out .entry)) at (now (out .exit)) r (decimalText x) ⌝ }
 {
@@ -62,17 +61,12 @@ fn put_next(out: &mut [u8], at: usize, x: u32) -> usize
     put_number(out, next, x)
 }
 
-// 0, the bound and the headroom, or the refusal alone.
-pub fn put_limits(out: &mut [u8], at: usize, answer: LimitsAnswer) -> usize
+// 0, the bound and the headroom.
+pub fn put_limits(out: &mut [u8], at: usize, limits: SetLimits) -> usize
     requires { ⌜ at + 32 ≤ length (now out) ⌝ }
-    ensures { λ r. ⌜ Appended (now (out .entry)) at (now (out .exit)) r (limitsText (limitsAs answer)) ⌝ }
+    ensures { λ r. ⌜ Appended (now (out .entry)) at (now (out .exit)) r (limitsText (accepted (limitsFrom limits))) ⌝ }
 {
-    match answer {
-        LimitsAnswer::Refused(k) => put_number(out, at, k),
-        LimitsAnswer::Accepted(limits) => {
-            let a = put_number(out, at, 0);
-            let b = put_next(out, a, limits.bound);
-            put_next(out, b, limits.headroom)
-        }
-    }
+    let a = put_number(out, at, 0);
+    let b = put_next(out, a, limits.bound);
+    put_next(out, b, limits.headroom)
 }

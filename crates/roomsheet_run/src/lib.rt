@@ -1,4 +1,4 @@
-// Runs roomsheet over standard input and output, with buffers that the caller lends. What it prints is proved in roomsheet_chunks;
+// Runs roomsheet over standard input and output, with buffers that the caller lends. What it prints is proved in roomsheet_lines;
 // here the octets are read and written. A read that fails ends the input, and a write that fails is passed over: the papers leave
 // both free.
 use libc::STDIN_FILENO;
@@ -38,7 +38,7 @@ fn answer_all(input: &mut [u8], have: usize, output: &mut [u8]) -> usize
 {
     let mut have = have;
     loop {
-        let chunk = roomsheet_chunks::answer_chunk(input, have, output);
+        let chunk = roomsheet_lines::answer_chunk(input, have, output);
         let written = chunk.written;
         io::write_all(STDOUT_FILENO, &output[..written]);
         have = chunk.kept;
@@ -76,6 +76,6 @@ pub fn run(input: &mut [u8], most: usize, output: &mut [u8])
     requires { ⌜ 33 ≤ length (now output) ⌝ }
 {
     let kept = read_all(input, most, output);
-    let written = roomsheet_chunks::answer_last(&input[..kept], output);
+    let written = roomsheet_lines::answer_last(&input[..kept], output);
     io::write_all(STDOUT_FILENO, &output[..written]);
 }

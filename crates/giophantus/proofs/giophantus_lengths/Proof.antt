@@ -1,44 +1,51 @@
--- `giophantus_lengths` writes the five lengths of a set that is accepted.
+-- `giophantus_lengths` writes the five lengths of the set that the constructor accepted.
 -- Assumes nothing.
 use borrow.Author.Needs.{needs}
-use mathlib.Core.Path.{_≡_, sym, _∙_}
-use Rattle.definitions.proofs.Parameters.{accepted-set, key-degree-most, mask-degree-most}
-use Rattle.giophantus.proofs.Exits.{lengths-refused, lengths-accepted}
+use Rattle.definitions.specs.Refusals.{Answer, number, output}
+use Rattle.definitions.specs.Parameters.{Lengths, LengthsExit, lengthsOf, lengthsAnswer, lengthsExit}
+use Rattle.definitions.proofs.Parameters.{Accepted, accepted-set, key-degree-most, mask-degree-most}
+use Rattle.parameters.specs.Answers.{setFrom}
+use Rattle.parameters.proofs.Answers.{checked-fits}
+use Rattle.giophantus.proofs.Exits.{accepted-value, refused-value}
 use Rattle.giophantus.proofs.giophantus_lengths.Statement.{statement}
 use Rattle.giophantus.proofs.giophantus_lengths.Tie as tie
 
-returns : tie.Need-returns
-returns c = lengths-refused _ _ _ (c .before .refusal .ensures) (c .if1 .taken)
+abbrev leaves : Lengths → Answer Lengths → LengthsExit
+leaves old a = record { refusal = number a; lengths = output (λ l. l) a old }
+
+made : (c : tie.After-secret-length) → Accepted (setFrom (c .before .before .p .given .0 .0))
+made c = let p = c .before .before in accepted-set _ (checked-fits _ (p .before .before .new .ensures) (p .p .given .1))
 
 public-length-requires : tie.Need-public-length-requires
-public-length-requires c κs = key-degree-most _ (accepted-set _ (sym (c .before .before .refusal .ensures) ∙ c .before .if1 .left))
+public-length-requires c κs = key-degree-most _ (made c)
 
 ciphertext-length-requires : tie.Need-ciphertext-length-requires
-ciphertext-length-requires c κs =
-    let set = accepted-set _ (sym (c .before .before .before .before .refusal .ensures) ∙ c .before .before .before .if1 .left) in
-    (key-degree-most _ set, mask-degree-most _ set)
+ciphertext-length-requires c κs = let set = made (c .before .before) in (key-degree-most _ set, mask-degree-most _ set)
 
-returns-2 : tie.Need-returns-2
-returns-2 c =
-    lengths-accepted _ _ _ (sym (c .before .before .before .before .before .before .refusal .ensures) ∙ c .before .before .before .before .before .if1 .left)
+returns : tie.Need-returns
+unfolding lengthsExit lengthsAnswer
+returns c =
+    let ciphertext = c .before in
+    let message = ciphertext .before in
+    let public = message .before in
+    let secret = public .before in
+    let p = secret .before .before in
+    accepted-value _ (p .before .before .new .ensures) (leaves _) lengthsOf (p .p .given .1) _
     (λ i.
     record {
-      secret = c .before .before .before .before .secret-length .ensures i;
-      public = c .before .before .before .public-length .ensures i;
-      message = c .before .before .message-length .ensures i;
-      ciphertext = c .before .ciphertext-length .ensures i;
+      secret = secret .secret-length .ensures i;
+      public = public .public-length .ensures i;
+      message = message .message-length .ensures i;
+      ciphertext = ciphertext .ciphertext-length .ensures i;
       work = c .work-length .ensures i;
     })
+
+returns-2 : tie.Need-returns-2
+unfolding lengthsExit lengthsAnswer
+returns-2 c = let k = c .before in refused-value _ (k .before .before .new .ensures) (leaves _) _ (k .k .given .1)
 
 pub giophantus-lengths-spec : {M : Type 1} → statement M
 giophantus-lengths-spec =
     tie.close
-    (tie.spec
-    (λ c κs. search needs)
-    returns
-    (λ c κs. search needs)
-    public-length-requires
-    (λ c κs. search needs)
-    ciphertext-length-requires
-    (λ c κs. search needs)
-    returns-2)
+    (tie.spec (λ c κs. search needs) (λ c. search needs) (λ c κs. search needs) public-length-requires (λ c κs. search needs)
+    ciphertext-length-requires (λ c κs. search needs) (λ c. search needs) returns returns-2)

@@ -58,4 +58,5 @@ returns-5 c =
 pub parse-number-spec : {M : Type 1} → statement M
 parse-number-spec =
     tie.close
-    (tie.spec (λ c κs. search needs) (λ c. search needs) (λ c. search needs) returns returns-2 (λ c. search needs) returns-3 shared-slice-read-if3 returns-4 returns-5)
+    (tie.spec (λ c κs. search needs) (λ c. search needs) (λ c. search needs) returns returns-2 (λ c. search needs) returns-3
+    shared-slice-read-if3 returns-4 returns-5)

@@ -26,12 +26,6 @@ loop-holds c = progress-start _ _ _ (c .if1 .left) (c .before .before .before .p
 parse-number-requires : tie.Need-parse-number-requires Inv-loop μ-loop
 parse-number-requires c κs = c .before .loop .inv .within
 
-enum-known-value : tie.Need-enum-known-value Inv-loop μ-loop
-enum-known-value c = search needs
-
-enum-told : tie.Need-enum-told Inv-loop μ-loop
-enum-told c = search needs
-
 same-length : tie.Need-same-length Inv-loop μ-loop
 same-length c = c .before .before .before .before .loop .inv .kept
 
@@ -40,15 +34,6 @@ returns-2 c =
     progress-spoiled _ _ _ _ _ _ (c .before .before .before .before .loop .inv) (c .before .before .before .loop-test .taken)
     (ap numberAs (sym (c .enum-told .given .1)) ∙ c .before .before .parse-number .ensures)
 
-mul-numbers : tie.Need-mul-numbers Inv-loop μ-loop
-mul-numbers c = omega arith
-
-slice-write-numbers : tie.Need-slice-write-numbers Inv-loop μ-loop
-slice-write-numbers c = omega arith
-
-add-i : tie.Need-add-i Inv-loop μ-loop
-add-i c = omega arith
-
 same-length-2 : tie.Need-same-length-2 Inv-loop μ-loop
 same-length-2 c = simp length-set (c .before .before .before .before .before .before .loop .inv .kept)
 
@@ -56,9 +41,6 @@ returns-3 : tie.Need-returns-3 Inv-loop μ-loop
 returns-3 c =
     progress-end _ _ _ _ _ _ (c .before .before .before .before .before .before .loop .inv) (c .before .before .before .before .before .loop-test .taken) _ _
     (ap numberAs (sym (c .before .before .value .given .1)) ∙ c .before .before .before .before .parse-number .ensures) (c .if2 .taken)
-
-loop-less : tie.Need-loop-less Inv-loop μ-loop
-loop-less c = omega arith
 
 loop-again : tie.Need-loop-again Inv-loop μ-loop
 loop-again c =
@@ -77,5 +59,6 @@ returns-4 c = progress-over _ _ _ _ _ _ (c .before .loop .inv) (c .loop-test .le
 pub parse-numbers-spec : {M : Type 1} → statement M
 parse-numbers-spec =
     tie.close
-    (tie.spec Inv-loop μ-loop returns loop-holds parse-number-requires enum-known-value enum-told same-length returns-2 mul-numbers
-    slice-write-numbers add-i same-length-2 returns-3 add-at loop-less loop-again same-length-3 returns-4)
+    (tie.spec Inv-loop μ-loop returns loop-holds parse-number-requires (λ c. search needs) (λ c. search needs) same-length returns-2
+    (λ c. search needs) (λ c. search needs) (λ c. search needs) same-length-2 returns-3 add-at (λ c. search needs) loop-again same-length-3
+    returns-4)

@@ -1,9 +1,9 @@
 -- `read_digits` meets its contract: at each place the digits so far and their number stand for the front of the field.
 -- Assumes nothing.
 use Prim.Native.Nat.{_-_}
-use native.Mathlib.Omega.{arith}
 use lib.ListN.{length}
 use borrow.Author.Tests.{le-leb, lt-leb}
+use borrow.Author.Needs.{needs}
 use Rattle.roomsheet_parse.proofs.Parts.{upTo-drop-end, upTo-drop-hit, upTo-drop-miss}
 use Rattle.roomsheet_parse.proofs.Digits.{Reading, reading-start, reading-end, reading-stop, reading-next}
 use Rattle.roomsheet_parse.proofs.read_digits.Statement.{statement}
@@ -17,12 +17,6 @@ abbrev μ-loop : tie.MeasureT-loop
 
 loop-holds : tie.Need-loop-holds Inv-loop μ-loop
 loop-holds c = reading-start _ _ (c .pre)
-
-shared-slice-read-c : tie.Need-shared-slice-read-c Inv-loop μ-loop
-shared-slice-read-c c = omega arith
-
-cast-t10 : tie.Need-cast-t10 Inv-loop μ-loop
-cast-t10 c = omega arith
 
 returns : tie.Need-returns Inv-loop μ-loop
 returns c =
@@ -40,26 +34,11 @@ returns-3 c =
     (upTo-drop-miss 32 _ _ (c .before .before .before .before .loop-test .taken) (c .before .before .if1 .left))
     (rw (le-leb _ _ (c .before .if2 .left), lt-leb _ _ (c .if3 .taken)))
 
-mul-value : tie.Need-mul-value Inv-loop μ-loop
-mul-value c = omega arith
-
-cast-value : tie.Need-cast-value Inv-loop μ-loop
-cast-value c = omega arith
-
-add-value : tie.Need-add-value Inv-loop μ-loop
-add-value c = omega arith
-
 returns-4 : tie.Need-returns-4 Inv-loop μ-loop
 returns-4 c =
     reading-stop _ _ _ _ (c .before .before .before .before .before .before .loop .inv) _ _
     (upTo-drop-miss 32 _ _ (c .before .before .before .before .before .loop-test .taken) (c .before .before .before .if1 .left))
     (rw (le-leb _ _ (c .before .before .if2 .left), le-leb _ _ (c .before .if3 .left), lt-leb _ _ (c .if4 .taken)))
-
-add-i : tie.Need-add-i Inv-loop μ-loop
-add-i c = omega arith
-
-loop-less : tie.Need-loop-less Inv-loop μ-loop
-loop-less c = omega arith
 
 loop-again : tie.Need-loop-again Inv-loop μ-loop
 loop-again c =
@@ -69,14 +48,11 @@ loop-again c =
     (rw (le-leb _ _ (c .before .before .if2 .left), le-leb _ _ (c .before .if3 .left)))
     (c .if4 .left)
 
-cast-t13 : tie.Need-cast-t13 Inv-loop μ-loop
-cast-t13 c = omega arith
-
 returns-5 : tie.Need-returns-5 Inv-loop μ-loop
 returns-5 c = reading-end _ _ _ _ (c .before .loop .inv) (upTo-drop-end 32 _ _ (c .loop-test .left))
 
 pub read-digits-spec : {M : Type 1} → statement M
 read-digits-spec =
     tie.close
-    (tie.spec Inv-loop μ-loop loop-holds shared-slice-read-c cast-t10 returns returns-2 returns-3 mul-value cast-value add-value returns-4
-    add-i loop-less loop-again cast-t13 returns-5)
+    (tie.spec Inv-loop μ-loop loop-holds (λ c. search needs) (λ c. search needs) returns returns-2 returns-3 (λ c. search needs)
+    (λ c. search needs) (λ c. search needs) returns-4 (λ c. search needs) (λ c. search needs) loop-again (λ c. search needs) returns-5)

@@ -7,25 +7,26 @@ use Rattle.roomsheet_print.proofs.Printing.{decimalText-le, appended-ap
 use Rattle.roomsheet_print.proofs.put_limits.Statement.{statement}
 use Rattle.roomsheet_print.proofs.put_limits.Tie as tie
 
+abbrev first : tie.After-put-next → tie.After-put-number
+first c = c .before .before .before .before
+
+abbrev second : tie.After-put-next2 → tie.After-put-next
+second c = c .before .before .before .before
+
 put-next-requires : tie.Need-put-next-requires
 put-next-requires c κs = omega (arith, decimalText-le 0)
 
 put-next-requires-2 : tie.Need-put-next-requires-2
-put-next-requires-2 c κs = omega (arith, decimalText-le 0, decimalText-le (c .before .before .before .before .before .before .before .before .before .before .answer2 .given .0 .0 .bound))
+put-next-requires-2 c κs =
+    let start = first (c .before .before .before) .before .before .before in
+    omega (arith, decimalText-le 0, decimalText-le (start .args .limits .bound))
 
 returns : tie.Need-returns
 unfolding limitsText
-returns c = rw (c .before .before .before .before .before .answer .given .1) (c .before .before .put-number .ensures)
-
-returns-2 : tie.Need-returns-2
-unfolding limitsText
-returns-2 c =
-    rw (c .before .before .before .before .before .before .before .before .before .before .before .before .before .answer2 .given .1)
-    (appended-append _ _ _ _ _ _ _ _ (c .before .before .before .before .before .before .before .before .before .before .put-number2 .ensures)
-    (appended-append _ _ _ _ _ _ _ _ (c .before .before .before .before .before .before .put-next .ensures) (c .before .before .put-next2 .ensures)))
+returns c =
+    let third = c .before .before in
+    appended-append _ _ _ _ _ _ _ _ (first (second third) .put-number .ensures)
+    (appended-append _ _ _ _ _ _ _ _ (second third .put-next .ensures) (third .put-next2 .ensures))
 
 pub put-limits-spec : {M : Type 1} → statement M
-put-limits-spec =
-    tie.close
-    (tie.spec (λ c. search needs) (λ c κs. search needs) (λ c. search needs) (λ c κs. search needs) put-next-requires put-next-requires-2
-    (λ c. search needs) returns (λ c. search needs) returns-2)
+put-limits-spec = tie.close (tie.spec (λ c κs. search needs) put-next-requires put-next-requires-2 (λ c. search needs) returns)

@@ -12,29 +12,11 @@ Inv-loop out₀ at x end rest₀ i₀ out rest i = Writing out₀ out at end x r
 abbrev μ-loop : tie.MeasureT-loop
 μ-loop out₀ at x end rest₀ i₀ out rest i = i
 
-decimal-length-requires : tie.Need-decimal-length-requires Inv-loop μ-loop
-decimal-length-requires c κs = search needs
-
 add-end : tie.Need-add-end Inv-loop μ-loop
 add-end c = omega (arith, decimalLength-le (c .before .before .args .x))
 
 loop-holds : tie.Need-loop-holds Inv-loop μ-loop
 loop-holds c = writing-start _ _ _ _ (omega arith) (omega (arith, decimalLength-le (c .before .before .args .x)))
-
-sub-i : tie.Need-sub-i Inv-loop μ-loop
-sub-i c = omega arith
-
-cast-out : tie.Need-cast-out Inv-loop μ-loop
-cast-out c = omega arith
-
-add-out : tie.Need-add-out Inv-loop μ-loop
-add-out c = omega arith
-
-slice-write-out : tie.Need-slice-write-out Inv-loop μ-loop
-slice-write-out c = omega arith
-
-loop-less : tie.Need-loop-less Inv-loop μ-loop
-loop-less c = omega arith
 
 loop-again : tie.Need-loop-again Inv-loop μ-loop
 loop-again c = writing-next _ _ _ _ _ _ _ (c .before .loop .inv) _ (omega arith) (omega arith)
@@ -50,5 +32,5 @@ returns c =
 pub put-number-spec : {M : Type 1} → statement M
 put-number-spec =
     tie.close
-    (tie.spec Inv-loop μ-loop decimal-length-requires add-end loop-holds sub-i cast-out add-out slice-write-out loop-less loop-again
-    same-length returns)
+    (tie.spec Inv-loop μ-loop (λ c κs. search needs) add-end loop-holds (λ c. search needs) (λ c. search needs) (λ c. search needs) (λ c. search needs)
+    (λ c. search needs) loop-again same-length returns)

@@ -19,17 +19,11 @@ abbrev μ-loop : tie.MeasureT-loop
 loop-holds : tie.Need-loop-holds Inv-loop μ-loop
 loop-holds c = omega arith
 
-answer-chunk-requires : tie.Need-answer-chunk-requires Inv-loop μ-loop
-answer-chunk-requires c κs = omega arith
-
 slice-reshare-prefix-write-all : tie.Need-slice-reshare-prefix-write-all Inv-loop μ-loop
 slice-reshare-prefix-write-all c = c .before .before .before .before .answer-chunk .ensures .written-le
 
 slice-aggregate-write-all : tie.Need-slice-aggregate-write-all Inv-loop μ-loop
 slice-aggregate-write-all c = sym (length-take-le _ _ (c .before .before .before .before .before .answer-chunk .ensures .written-le))
-
-write-all-requires : tie.Need-write-all-requires Inv-loop μ-loop
-write-all-requires c κs = search needs
 
 same-length : tie.Need-same-length Inv-loop μ-loop
 same-length c = c .before .before .before .before .before .before .before .answer-chunk .kept .0 ∙ c .before .before .before .before .before .before .before .before .before .before .loop .inv .2
@@ -63,5 +57,5 @@ loop-less c =
 pub answer-all-spec : {M : Type 1} → statement M
 answer-all-spec =
     tie.close
-    (tie.spec Inv-loop μ-loop loop-holds answer-chunk-requires slice-reshare-prefix-write-all slice-aggregate-write-all write-all-requires
-    same-length same-length-2 returns loop-less loop-again)
+    (tie.spec Inv-loop μ-loop loop-holds (λ c κs. search needs) slice-reshare-prefix-write-all slice-aggregate-write-all
+    (λ c κs. search needs) same-length same-length-2 returns loop-less loop-again)

@@ -7,13 +7,18 @@ use Rattle.roomsheet_run.proofs.Reading.{read-into}
 use Rattle.roomsheet_run.proofs.read_some.Statement.{statement}
 use Rattle.roomsheet_run.proofs.read_some.Tie as tie
 
+same-length : tie.Need-same-length
+same-length c = search needs
+
 returns : tie.Need-returns
 returns c =
-    let s = c .before .before .before .before .before .before .before .before .before in
-    read-into (s .args .input .now) (c .before .before .before .before .before .read .last .1 .0) (s .args .kept) (c .before .before .before .before .before .before .before .read-end .result - s .args .kept) _ (le-of-lt (s .pre .0)) (same-length c) (c .count .ensures .0 .0)
+    let read = c .before .before .before .before .before in
+    let s = read .before .before .before .before in
+    read-into (s .args .input .now) (read .read .last .1 .0) (s .args .kept) (read .before .before .read-end .result - s .args .kept) _ (le-of-lt (s .pre .0))
+    (same-length c) (c .count .ensures .0 .0)
 
 pub read-some-spec : {M : Type 1} → statement M
 read-some-spec =
     tie.close
-    (tie.spec (λ c κs. search needs) (λ c. search needs) (λ c. search needs) (λ c. search needs) (λ c κs. search needs) (λ c. search needs) (λ c. search needs) (λ c. search needs)
-    (λ c κs. search needs) (λ c. search needs) returns)
+    (tie.spec (λ c κs. search needs) (λ c. search needs) (λ c. search needs) (λ c. search needs) (λ c κs. search needs) (λ c. search needs)
+    (λ c. search needs) (λ c. search needs) (λ c κs. search needs) same-length returns)

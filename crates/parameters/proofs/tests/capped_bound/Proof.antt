@@ -18,12 +18,6 @@ Inv-loop l n last sum₀ power₀ k₀ sum pow k = Turn l n last sum pow k
 abbrev μ-loop : tie.MeasureT-loop
 μ-loop l n last sum₀ power₀ k₀ sum pow k = last + 1 - k
 
-cast-l : tie.Need-cast-l Inv-loop μ-loop
-cast-l c = search needs
-
-cast-n : tie.Need-cast-n Inv-loop μ-loop
-cast-n c = search needs
-
 add-last : tie.Need-add-last Inv-loop μ-loop
 add-last c =
     let both = degreeFits-within _ (c .before .before .before .pre .1 .1) in
@@ -47,9 +41,6 @@ loop-holds c =
     let range : Within 2 16 (c .before .before .before .args .p .l) = record { least = range-least _ (pre .0); most = range-most _ (pre .0) } in
     turn-start _ _ _ range (ringFits-within _ (pre .1 .0)) (omega arith)
 
-add-sum : tie.Need-add-sum Inv-loop μ-loop
-add-sum c = omega arith
-
 mul-sum : tie.Need-mul-sum Inv-loop μ-loop
 mul-sum c = omega (arith, count-pow-le _ _ _ _ _ _ (c .before .loop .inv) (c .loop-test .taken))
 
@@ -59,14 +50,8 @@ mul-sum-2 c = omega (arith, added-le _ _ _ _ _ _ (c .before .loop .inv) (c .loop
 add-sum-2 : tie.Need-add-sum-2 Inv-loop μ-loop
 add-sum-2 c = omega (arith, added-le _ _ _ _ _ _ (c .before .loop .inv) (c .loop-test .taken))
 
-cast-result : tie.Need-cast-result Inv-loop μ-loop
-cast-result c = search needs
-
 returns : tie.Need-returns Inv-loop μ-loop
 returns c = sym (capped-past _ _ _ _ (c .before .before .loop .inv) (c .before .loop-test .taken) (c .if1 .taken))
-
-sub-power-2 : tie.Need-sub-power-2 Inv-loop μ-loop
-sub-power-2 c = omega arith
 
 mul-power : tie.Need-mul-power Inv-loop μ-loop
 mul-power c = omega (arith, factor-le _ _ _ _ _ _ (c .before .before .loop .inv) (c .before .loop-test .taken))
@@ -74,17 +59,8 @@ mul-power c = omega (arith, factor-le _ _ _ _ _ _ (c .before .before .loop .inv)
 mul-power-2 : tie.Need-mul-power-2 Inv-loop μ-loop
 mul-power-2 c = omega (arith, next-pow-le _ _ _ _ _ _ (c .before .before .loop .inv) (c .before .loop-test .taken) (c .if1 .left))
 
-add-k : tie.Need-add-k Inv-loop μ-loop
-add-k c = omega arith
-
-loop-less : tie.Need-loop-less Inv-loop μ-loop
-loop-less c = omega arith
-
 loop-again : tie.Need-loop-again Inv-loop μ-loop
 loop-again c = turn-next _ _ _ _ _ _ (c .before .before .loop .inv) (c .before .loop-test .taken) (c .if1 .left)
-
-cast-result-2 : tie.Need-cast-result-2 Inv-loop μ-loop
-cast-result-2 c = omega arith
 
 returns-2 : tie.Need-returns-2 Inv-loop μ-loop
 returns-2 c = sym (capped-end _ _ _ _ (c .before .loop .inv) (c .loop-test .left))
@@ -92,5 +68,6 @@ returns-2 c = sym (capped-end _ _ _ _ (c .before .loop .inv) (c .loop-test .left
 pub capped-bound-spec : {M : Type 1} → statement M
 capped-bound-spec =
     tie.close
-    (tie.spec Inv-loop μ-loop cast-l cast-n add-last cast-last sub-sum sub-power loop-holds add-sum mul-sum mul-sum-2 add-sum-2
-    cast-result returns sub-power-2 mul-power mul-power-2 add-k loop-less loop-again cast-result-2 returns-2)
+    (tie.spec Inv-loop μ-loop (λ c. search needs) (λ c. search needs) add-last cast-last sub-sum sub-power loop-holds (λ c. search needs)
+    mul-sum mul-sum-2 add-sum-2 (λ c. search needs) returns (λ c. search needs) mul-power mul-power-2 (λ c. search needs)
+    (λ c. search needs) loop-again (λ c. search needs) returns-2)
