@@ -1,6 +1,5 @@
 -- Laws that the proofs cite.
 pub mod Parts
-pub mod Halves
+pub mod Words
 pub mod Constant
-pub mod Writing
 pub mod Returns

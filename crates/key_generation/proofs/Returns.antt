@@ -1,99 +1,68 @@
--- What key generation leaves at each of its returns.
+-- What key generation leaves at each of its returns: the tests that led there decide the answer.
 --
---   keygen-set, keygen-..-length    a refusal of the set, or 6: nothing is touched
+--   keygen-length                   6: nothing is touched
 --   keygen-short, keygen-exhausted  9: the work words are cleared, and nothing else is touched
---   keygen-written                  both keys
---   used-room                       the octets used are among those lent
+--   keygen-written, keys-written    both keys
 -- Assumes nothing.
-use Prim.Native.Nat.{ℕ, _+_, _-_, _*_, _/_, _≤_, _<_}
-use native.Mathlib.Nat.{le-trans, mul-le-mul-right, div-mul-le-self}
-use native.Mathlib.Omega.{arith}
+use Prim.Native.Nat.{ℕ, _+_, _*_, _≤_, _<_}
 use mathlib.Core.Path.{_≡_}
-use mathlib.Core.Bool.{true, false, _&&_, and-false}
+use mathlib.Core.Bool.{true, false}
 use mathlib.Core.List.{List, []}
-use borrow.Author.Tests.{eq-eqb, ne-eqb, lt-ltb, le-ltb}
-use lib.Dec.{eqb}
-use lib.ListN.{length, drop, replicate, length-drop}
-use Rattle.definitions.specs.Refusals.{untouched, firstRefusal}
-use Rattle.definitions.specs.Parameters.{Parameters, setTests, qlen, monomialCount, secretLength, publicLength, workLength}
-use Rattle.definitions.specs.Draws.{candidates, draws}
-use Rattle.definitions.specs.Calls.{KeygenExit, keyDraws, keyPairOf, keygenAnswer, keygenLeaves, keygenExit}
-use Rattle.definitions.specs.Demand3.{AcceptedSet}
+use borrow.Author.Tests.{lt-ltb, le-ltb}
+use lib.ListN.{length, replicate}
+use Rattle.definitions.specs.Refusals.{Answer, untouched, accepted}
+use Rattle.definitions.specs.Parameters.{Parameters, qlen, secretLength}
+use Rattle.definitions.specs.Calls.{KeyPair, keysExact, keyDraws, keyPairOf, KeygenExit, keygenAnswer, keygenLeaves, keygenExit}
+use Rattle.definitions.specs.Demand3.{AcceptedSet, secretOf}
 use Rattle.definitions.proofs.Refusals.{firstRefusal-applies, firstRefusal-last}
-use Rattle.definitions.proofs.Draws.{draws-groups-le, length-candidates}
-use Rattle.definitions.proofs.Exits.{exit-set, exit-length, exit-refused, exit-accepted}
-use Rattle.key_generation.specs.Keys.{Exact, keysOf, KeysWritten}
+use Rattle.definitions.proofs.Exits.{exit-length, exit-refused, exit-accepted}
+use Rattle.key_generation.specs.Keys.{wordsX, wordsY, wordsTerms, HalvesDrawn, publicIn, keysIn}
 
-pub used-room : (p : Parameters) (random : List ℕ) → secretLength p ≤ length random
-    → secretLength p + qlen (p .q) * keyDraws p random .groups ≤ length random
-unfolding keyDraws
-used-room p random room =
-    let rest : List ℕ = drop (secretLength p) random in
-    let groups : ℕ = draws (p .q) ((monomialCount (p .dx) - 1) * p .n) (candidates (p .q) rest) .groups in
-    let few : groups ≤ length rest / qlen (p .q) = rw (length-candidates (p .q) rest) at (draws-groups-le (p .q) ((monomialCount (p .dx) - 1) * p .n) (candidates (p .q) rest)) in
-    let most : groups * qlen (p .q) ≤ length rest = le-trans (mul-le-mul-right (qlen (p .q)) few) (div-mul-le-self (length rest) (qlen (p .q))) in
-    omega (arith, length-drop (secretLength p) random)
+module _ (p : Parameters) (random secret public : List ℕ) (used : ℕ) (work : List ℕ) (set : AcceptedSet p) where
+  abbrev leaves : Answer KeyPair → KeygenExit
+  leaves a = keygenLeaves a secret public used work
 
-module _ (p : Parameters) (random secret public : List ℕ) (used : ℕ) (work : List ℕ) where
-  pub keygen-set : {k : ℕ} → k ≡ firstRefusal (setTests p) → (k ≡ 0 → ⊥)
-      → keygenLeaves (untouched k) secret public used work ≡ keygenExit p random secret public used work
+  abbrev exit : KeygenExit
+  exit = keygenExit p random secret public used work
+
+  pub keygen-length : keysExact p (length secret) (length public) (length work) ≡ false → leaves (untouched 6) ≡ exit
   unfolding keygenExit keygenAnswer
-  keygen-set e pos = exit-set (λ x. keygenLeaves x secret public used work) p _ _ _ e pos
+  keygen-length e = exit-length leaves p _ _ _ set e
 
-  module _ (set : AcceptedSet p) {len : ℕ} where
-    pub keygen-secret-length : len ≡ secretLength p → (length secret ≡ len → ⊥)
-        → keygenLeaves (untouched 6) secret public used work ≡ keygenExit p random secret public used work
+  module _ (exact : keysExact p (length secret) (length public) (length work) ≡ true) where
+    -- 9, with the work words cleared
+    abbrev Exhausted : ℕ → List ℕ → Type 0
+    Exhausted k zeros =
+        (k ≡ 9) × (zeros ≡ replicate (length work) 0)
+        → _≡_ {A = KeygenExit} (record { refusal = k; secret = secret; public = public; used = used; work = zeros }) exit
+
+    pub keygen-short : length random < secretLength p → {k : ℕ} {zeros : List ℕ} → Exhausted k zeros
     unfolding keygenExit keygenAnswer
-    keygen-secret-length e h =
-        exit-length (λ x. keygenLeaves x secret public used work) p _ _ _ set (rw (ne-eqb (length secret) (secretLength p) (rw e at h)))
-
-    pub keygen-public-length : len ≡ publicLength p → (length public ≡ len → ⊥)
-        → keygenLeaves (untouched 6) secret public used work ≡ keygenExit p random secret public used work
-    unfolding keygenExit keygenAnswer
-    keygen-public-length e h =
-        exit-length (λ x. keygenLeaves x secret public used work) p _ _ _ set
-        (rw (ne-eqb (length public) (publicLength p) (rw e at h), and-false (eqb (length secret) (secretLength p))))
-
-    pub keygen-work-length : len ≡ workLength p → (length work ≡ len → ⊥)
-        → keygenLeaves (untouched 6) secret public used work ≡ keygenExit p random secret public used work
-    unfolding keygenExit keygenAnswer
-    keygen-work-length e h =
-        exit-length (λ x. keygenLeaves x secret public used work) p _ _ _ set
-        (rw (
-          ne-eqb (length work) (workLength p) (rw e at h),
-          and-false (eqb (length public) (publicLength p)),
-          and-false (eqb (length secret) (secretLength p)),
-        ))
-
-  module _ (exact : Exact p secret public work) where
-    lengths : (eqb (length secret) (secretLength p) && (eqb (length public) (publicLength p) && eqb (length work) (workLength p))) ≡ true
-    lengths =
-        rw (
-          eq-eqb (length secret) (secretLength p) (exact .secret-length),
-          eq-eqb (length public) (publicLength p) (exact .public-length),
-          eq-eqb (length work) (workLength p) (exact .work-length),
-        )
-
-    pub keygen-short : length random < secretLength p → {new : List ℕ} → new ≡ replicate (length work) 0
-        → _≡_ {A = KeygenExit} (record { refusal = 9; secret = secret; public = public; used = used; work = new }) (keygenExit p random secret public used work)
-    unfolding keygenExit keygenAnswer
-    keygen-short h e =
-        rw e (exit-refused (λ x. keygenLeaves x secret public used work) p _ _ _ (exact .set) lengths 8
+    keygen-short h z =
+        rw (z .0, z .1) (exit-refused leaves p _ _ _ set exact 8
         (firstRefusal-applies 9 _ [] (rw (lt-ltb (length random) (secretLength p) h))))
 
     module _ (room : secretLength p ≤ length random) where
-      pub keygen-exhausted : keyDraws p random .enough ≡ false → {new : List ℕ} → new ≡ replicate (length work) 0
-          → _≡_ {A = KeygenExit} (record { refusal = 9; secret = secret; public = public; used = used; work = new }) (keygenExit p random secret public used work)
+      pub keygen-exhausted : keyDraws p random .enough ≡ false → {k : ℕ} {zeros : List ℕ} → Exhausted k zeros
       unfolding keygenExit keygenAnswer
-      keygen-exhausted h e =
-          rw e (exit-refused (λ x. keygenLeaves x secret public used work) p _ _ _ (exact .set) lengths 8
+      keygen-exhausted h z =
+          rw (z .0, z .1) (exit-refused leaves p _ _ _ set exact 8
           (firstRefusal-applies 9 _ [] (rw (le-ltb (length random) (secretLength p) room, h))))
 
-      pub keygen-written : keyDraws p random .enough ≡ true → {before s k w : List ℕ} → length before ≡ length work
-          → KeysWritten p random before s k w → {u : ℕ} → u ≡ secretLength p + qlen (p .q) * keyDraws p random .groups
-          → _≡_ {A = KeygenExit} (record { refusal = 0; secret = s; public = k; used = u; work = w }) (keygenExit p random secret public used work)
-      unfolding keygenExit keygenAnswer keysOf keyPairOf
-      keygen-written h {before} as-long written e =
-          rw (written .secret-octets, written .public-octets, written .cleared, as-long, e)
-          (exit-accepted (λ x. keygenLeaves x secret public used work) p _ _ _ (exact .set) lengths
-          (firstRefusal-last 9 _ (rw (le-ltb (length random) (secretLength p) room, h))))
+      -- what is drawn stands in other work words, as many
+      pub keygen-written : (words : List ℕ) (groups : ℕ) → length words ≡ length work → HalvesDrawn p random words
+          → keyDraws p random ≡ record { values = wordsTerms p words; groups = groups; enough = true }
+          → keygenLeaves (accepted (keysIn p groups words)) secret public used words ≡ exit
+      unfolding keygenExit keygenAnswer
+      keygen-written words groups sized halves e =
+          rw (sized, halves .x, halves .y, ← e) (exit-accepted leaves p _ _ _ set exact
+          (firstRefusal-last 9 _ (rw (le-ltb (length random) (secretLength p) room, e))))
+
+-- both keys, of what stands in the work words
+pub keys-written : (p : Parameters) (groups : ℕ) (secret public : List ℕ) (used : ℕ) (work : List ℕ) {k u : ℕ} {s o zeros : List ℕ}
+    → s ≡ secretOf p (wordsX p work) (wordsY p work) → o ≡ publicIn p work → u ≡ secretLength p + qlen (p .q) * groups
+    → (k ≡ 0) × (zeros ≡ replicate (length work) 0)
+    → _≡_ {A = KeygenExit} (record { refusal = k; secret = s; public = o; used = u; work = zeros })
+    (keygenLeaves (accepted (keysIn p groups work)) secret public used work)
+unfolding keyPairOf
+keys-written p groups secret public used work es eo eu z = rw (es, eo, eu, z .0, z .1)

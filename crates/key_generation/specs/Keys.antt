@@ -1,50 +1,78 @@
--- 01, "Draws from lent random octets" (key making): what the parts of key generation are asked and leave.
+-- 01, "Draws from lent random octets" (key making): what stands in the work words while keys are made.
 --
---   Exact            the set is accepted and the three buffers have their exact lengths
---   drawnWords       the words of so many elements from the third part of the work words on: what is drawn for a key
---   keysOf           both keys of some random octets, and the octets used
---   Ready            buffers of the exact lengths, octets for the secret, and a key's elements drawn into the work words
---   SecretWritten    a secret's octets, and its two elements in the first two parts of the work words
---   KeysWritten      both keys' octets, and work words of zero
+--   Follows          a list stands from a place up to another, behind what stood before it
+--   termsEnd         where the words of the terms end: every term but the constant, behind the first two parts
+--   wordsX, wordsY   the words of u_x and of u_y: the first two parts;  wordsTerms: those of the terms
+--   HalvesDrawn      u_x and u_y, drawn from the front of the random octets
+--   KeyWords         work words of the exact length with small elements in the first two parts and elements of R_q behind them
+--   valueIn          the value of a key at the secret in the work words, in R_q
+--   withConstant     a key's octets, with those of minus an element in place of its constant's
+--   publicIn         the public key's octets, of the terms and the secret in the work words;  keysIn: both keys
+--   Writes           both keys are written, of what stood in the work words, and the work words are zero
 -- Assumes nothing.
-use Prim.Native.Nat.{ℕ, _-_, _*_, _≤_, _<_}
+use Prim.Native.Nat.{ℕ, _+_, _-_, _*_, _%_}
 use mathlib.Core.Path.{_≡_}
+use mathlib.Core.Bool.{true}
 use mathlib.Core.List.{List, _++_}
-use lib.ListN.{length, take, drop, replicate}
-use Rattle.definitions.specs.Parameters.{Parameters, smallBits, monomialCount, smallLength, secretLength, publicLength, workLength}
-use Rattle.definitions.specs.Ring.{elementOf}
-use Rattle.definitions.specs.Octets.{packed}
+use lib.ListN.{length, take, drop}
+use lib.Seq.{slice}
+use Rattle.definitions.specs.Sequences.{tabulate}
+use Rattle.definitions.specs.Refusals.{accepted}
+use Rattle.definitions.specs.Parameters.{Parameters, qlen, monomialCount, smallLength, publicLength, workLength}
+use Rattle.definitions.specs.Ring.{Element, elementOf}
+use Rattle.definitions.specs.Monomials.{value}
+use Rattle.definitions.specs.Octets.{encoded, coefficientsFit}
 use Rattle.definitions.specs.Draws.{secretDrawn}
-use Rattle.definitions.specs.Calls.{KeyPair, keyDraws, keyPairOf}
-use Rattle.definitions.specs.Demand3.{AcceptedSet}
+use Rattle.definitions.specs.Calls.{KeyPair, polynomialFrom, keyConstant, keyPairOf, KeygenExit, keygenLeaves}
+use Rattle.definitions.specs.Contracts.{Buffer, Cell, before, after}
+use Rattle.definitions.specs.Demand3.{AcceptedSet, InSmallRing}
 use Rattle.ring.specs.Work.{part}
 
-pub record Exact (p : Parameters) (secret public work : List ℕ) : Type 0 where
+abbrev pub Follows : ℕ → ℕ → List ℕ → List ℕ → List ℕ → Type 0
+Follows at stop new old given = take stop given ≡ take at old ++ new
+
+abbrev pub termsEnd : Parameters → ℕ
+termsEnd p = p .n + p .n + (monomialCount (p .dx) - 1) * p .n
+
+abbrev pub wordsX : Parameters → List ℕ → List ℕ
+wordsX p = slice 0 (p .n)
+
+abbrev pub wordsY : Parameters → List ℕ → List ℕ
+wordsY p = slice (p .n) (p .n + p .n)
+
+abbrev pub wordsTerms : Parameters → List ℕ → List ℕ
+wordsTerms p = slice (p .n + p .n) (termsEnd p)
+
+pub record HalvesDrawn (p : Parameters) (random work : List ℕ) : Type 0 where
+  pub x : wordsX p work ≡ secretDrawn p random
+  pub y : wordsY p work ≡ secretDrawn p (drop (smallLength p) random)
+
+pub record KeyWords (p : Parameters) (work : List ℕ) : Type 0 where
   pub set : AcceptedSet p
-  pub secret-length : length secret ≡ secretLength p
-  pub public-length : length public ≡ publicLength p
-  pub work-length : length work ≡ workLength p
+  pub sized : length work ≡ workLength p
+  pub x : InSmallRing p (wordsX p work)
+  pub y : InSmallRing p (wordsY p work)
+  pub terms : coefficientsFit (p .q) (wordsTerms p work) ≡ true
 
-abbrev pub drawnWords : ℕ → ℕ → List ℕ → List ℕ
-drawnWords n elements work = take (elements * n) (drop (2 * n) work)
+abbrev pub valueIn : Parameters → List ℕ → List ℕ → Element
+valueIn p public work k = value (p .n) (p .dx) (polynomialFrom p public) (part work 0) (part work (p .n)) k % p .q
 
-unfoldable pub keysOf : Parameters → List ℕ → KeyPair
-keysOf p random = keyPairOf p (secretDrawn p random) (secretDrawn p (drop (smallLength p) random)) (keyDraws p random)
+abbrev pub withConstant : Parameters → Element → List ℕ → List ℕ
+withConstant p v public =
+    take (publicLength p - p .n * qlen (p .q)) public ++ encoded (qlen (p .q)) (tabulate (p .n) (λ k. (p .q - v k) % p .q))
 
-pub record Ready (p : Parameters) (random secret public work : List ℕ) : Type 0 where
-  pub exact : Exact p secret public work
-  pub room : secretLength p ≤ length random
-  pub drawn : drawnWords (p .n) (monomialCount (p .dx) - 1) work ≡ keyDraws p random .values
+abbrev pub publicIn : Parameters → List ℕ → List ℕ
+publicIn p work =
+    encoded (qlen (p .q))
+    (wordsTerms p work
+    ++ tabulate (p .n) (keyConstant p (wordsTerms p work) (elementOf (wordsX p work)) (elementOf (wordsY p work))))
 
-pub record SecretWritten (p : Parameters) (random secret work : List ℕ) : Type 0 where
-  pub octets :
-      secret
-      ≡ packed (smallBits (p .l)) (smallLength p) (secretDrawn p random)
-      ++ packed (smallBits (p .l)) (smallLength p) (secretDrawn p (drop (smallLength p) random))
-  pub x : (k : ℕ) → k < p .n → part work 0 k ≡ elementOf (secretDrawn p random) k
-  pub y : (k : ℕ) → k < p .n → part work (p .n) k ≡ elementOf (secretDrawn p (drop (smallLength p) random)) k
+abbrev pub keysIn : Parameters → ℕ → List ℕ → KeyPair
+keysIn p groups work =
+    keyPairOf p (wordsX p work) (wordsY p work) (record { values = wordsTerms p work; groups = groups; enough = true })
 
-pub record KeysWritten (p : Parameters) (random before secret public work : List ℕ) : Type 0 where
-  pub secret-octets : secret ≡ keysOf p random .secret
-  pub public-octets : public ≡ keysOf p random .public
-  pub cleared : work ≡ replicate (length before) 0
+abbrev pub Writes : Parameters → ℕ → Buffer → Buffer → Buffer → Cell → ℕ → Type 0
+Writes p groups secret public work used r =
+    _≡_ {A = KeygenExit}
+    (record { refusal = r; secret = after secret; public = after public; used = after used; work = after work })
+    (keygenLeaves (accepted (keysIn p groups (before work))) (before secret) (before public) (before used) (before work))

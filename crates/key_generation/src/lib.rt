@@ -1,101 +1,171 @@
 // Key generation (01, "Draws from lent random octets": key making): u_x and u_y are drawn first, then the elements of every term but the
 // constant; the constant is minus the value of those terms at (u_x, u_y), so that the secret is a zero of the key.
-// It refuses an unfit set (1 to 5), a length that is not the exact one (6) and random octets that end before the last draw is complete
-// (9). The draws below q are made first, into the work words, and nothing refuses after them: so a refusal leaves the outputs as they
-// were, and no octet is written twice but the constant's. The contract cites the definitions' keygenExit.
+//
+// The set is accepted. A length that is not the exact one is refused (6), and nothing is touched; random octets that end before the last
+// draw is complete are refused (9), and the outputs stay as they were and the work words are zero. All that is drawn stands in the work
+// words, u_x and u_y in the first two parts and the terms behind them, before an output is written. The contract cites keygenExit.
 ghost use mathlib.Core.Path.{_≡_};
+ghost use mathlib.Core.Bool.{true};
 ghost use mathlib.Core.List.{_++_};
-ghost use Prim.Native.Nat.{ℕ, _+_, _-_, _*_, _%_, _≤_, _<_};
+ghost use Prim.Native.Nat.{_+_, _*_, _^_, _≤_, _<_};
 ghost use lib.ListN.{length, take, drop, replicate};
-ghost use Rattle.definitions.specs.Sequences.{tabulate};
-ghost use Rattle.definitions.specs.Parameters.{smallBits, monomialCount, smallLength, secretLength, workLength};
+ghost use lib.Seq.{slice};
+ghost use Rattle.definitions.specs.Parameters.{smallBits, qlen, monomialCount, smallLength, secretLength, publicLength, workLength};
 ghost use Rattle.definitions.specs.Ring.{InRing};
-ghost use Rattle.definitions.specs.Monomials.{value};
-ghost use Rattle.definitions.specs.Octets.{coefficientAt, encoded, packed};
+ghost use Rattle.definitions.specs.Octets.{encoded, packed};
 ghost use Rattle.definitions.specs.Draws.{secretDrawn};
-ghost use Rattle.definitions.specs.Calls.{KeygenExit, keyDraws, keygenExit};
-ghost use Rattle.definitions.specs.Demand3.{AcceptedSet};
+ghost use Rattle.definitions.specs.Calls.{keysExact, elementsFit, keyDraws};
+ghost use Rattle.definitions.specs.Contracts.{before, after, Makes};
+ghost use Rattle.definitions.specs.Demand3.{AcceptedSet, InSmallRing, secretOf};
 ghost use Rattle.parameters.specs.Answers.{setFrom};
 ghost use Rattle.draws.specs.Runs.{said, drawnAnswer};
 ghost use Rattle.ring.specs.Work.{part};
-ghost use Rattle.decoding.specs.Elements.{Sizes, flat};
-ghost use Rattle.key_generation.specs.Keys.{drawnWords, Ready, SecretWritten, KeysWritten};
+ghost use Rattle.key_generation.specs.Keys.{Follows, termsEnd, wordsX, wordsY, wordsTerms, HalvesDrawn, KeyWords, valueIn, withConstant, publicIn, Writes};
 use draws::Run;
 use parameters::Parameters;
 use parameters::refusals;
 
-// The elements of every term but the constant, from the octets after the secret's, into the third part of the work words and those after.
-fn draw_others(random: &[u8], p: Parameters, work: &mut [u32]) -> Run
-    requires { ⌜ AcceptedSet (setFrom p) × (secretLength (setFrom p) ≤ length (now random)) × (length (now work) ≡ workLength (setFrom p)) ⌝ }
-    ensures { λ r. ⌜ said r (drawnWords (p .n) (monomialCount (p .dx) - 1) (now (work .exit))) ≡ drawnAnswer (keyDraws (setFrom p) (now (random .entry))) ⌝ }
+// A secret element from the random octets at a place on, into the work words at a place on.
+fn draw_half(p: Parameters, random: &[u8], start: usize, work: &mut [u32], at: usize)
+    requires { ⌜ (start + smallLength (setFrom p) ≤ length (now random)) × (at + p .n ≤ length (now work)) ⌝ }
+    ensures { λ _. ⌜ Follows at (at + p .n) (secretDrawn (setFrom p) (drop start (before random))) (before work) (after work) ⌝ }
 {
-    let start = lengths::secret_length(p);
-    let n = p.n as usize;
-    let at = 2 * n;
-    let stop = at + (lengths::monomial_count(p.dx) - 1) * n;
-    draws::draw_below(random, start, p.q, &mut work[at..stop])
+    let stop = at + p.n as usize;
+    draws::draw_secret(random, start, p, &mut work[at..stop]);
 }
 
-// The octets of so many drawn elements, and of 0 for the constant.
-fn write_terms(work: &mut [u32], elements: usize, n: usize, qlen: usize, public: &mut [u8])
-    requires { ⌜ Sizes n qlen (now work) × (elements ≤ 5) × (length (now public) ≡ (elements * n + n) * qlen) ⌝ }
-    ensures { λ _. ⌜ now (public .exit) ≡ encoded qlen (drawnWords n elements (now (work .entry)) ++ replicate n 0) ⌝ }
+// u_x and u_y, into the first two parts of the work words.
+fn draw_halves(p: Parameters, random: &[u8], work: &mut [u32])
+    requires { ⌜ (secretLength (setFrom p) ≤ length (now random)) × (length (now work) ≡ workLength (setFrom p)) ⌝ }
+    ensures { λ _. ⌜ HalvesDrawn (setFrom p) (before random) (after work) ⌝ }
 {
-    let at = 2 * n;
-    let stop = at + elements * n;
+    draw_half(p, random, 0, work, 0);
+    draw_half(p, random, lengths::small_length(p), work, p.n as usize);
+}
+
+// Where the words of the terms end: all terms but the constant, behind the first two parts.
+fn terms_end(p: Parameters) -> usize
+    requires { ⌜ AcceptedSet (setFrom p) ⌝ }
+    ensures { λ r. ⌜ r ≡ termsEnd (setFrom p) ⌝ }
+{
+    let n = p.n as usize;
+    n + n + (lengths::monomial_count(p.dx) - 1) * n
+}
+
+// The elements of every term but the constant, from the octets after the secret's, behind the first two parts of the work words.
+fn draw_terms(p: Parameters, random: &[u8], work: &mut [u32]) -> Run
+    requires { ⌜ AcceptedSet (setFrom p) × (secretLength (setFrom p) ≤ length (now random)) × (length (now work) ≡ workLength (setFrom p)) ⌝ }
+    ensures { λ r. ⌜ said r (wordsTerms (setFrom p) (after work)) ≡ drawnAnswer (keyDraws (setFrom p) (before random)) ⌝ }
+    ensures { λ _. ⌜ take (p .n + p .n) (after work) ≡ take (p .n + p .n) (before work) ⌝ }
+{
+    let n = p.n as usize;
+    let at = n + n;
+    let stop = terms_end(p);
+    draws::draw_below(random, lengths::secret_length(p), p.q, &mut work[at..stop])
+}
+
+// The octets of the secret element at a place of the work words, into the octets at a place on.
+fn write_half(p: Parameters, work: &[u32], at: usize, secret: &mut [u8], to: usize)
+    requires { ⌜ AcceptedSet (setFrom p) × (at + p .n ≤ length (now work)) × InSmallRing (setFrom p) (slice at (at + p .n) (now work)) × (to + smallLength (setFrom p) ≤ length (now secret)) ⌝ }
+    ensures { λ _. ⌜ Follows to (to + smallLength (setFrom p)) (packed (smallBits (p .l)) (smallLength (setFrom p)) (slice at (at + p .n) (before work))) (before secret) (after secret) ⌝ }
+{
+    let stop = at + p.n as usize;
+    let end = to + lengths::small_length(p);
+    packing::pack(&work[at..stop], parameters::bits(p.l), &mut secret[to..end]);
+}
+
+// The secret's octets.
+fn write_secret(p: Parameters, secret: &mut [u8], work: &[u32])
+    requires { ⌜ KeyWords (setFrom p) (now work) × (length (now secret) ≡ secretLength (setFrom p)) ⌝ }
+    ensures { λ _. ⌜ after secret ≡ secretOf (setFrom p) (wordsX (setFrom p) (before work)) (wordsY (setFrom p) (before work)) ⌝ }
+{
+    write_half(p, work, 0, secret, 0);
+    write_half(p, work, p.n as usize, secret, lengths::small_length(p));
+}
+
+// The octets of the terms, and of 0 for the constant.
+fn write_terms(p: Parameters, public: &mut [u8], work: &mut [u32])
+    requires { ⌜ AcceptedSet (setFrom p) × (length (now public) ≡ publicLength (setFrom p)) × (length (now work) ≡ workLength (setFrom p)) ⌝ }
+    ensures { λ _. ⌜ after public ≡ encoded (qlen (p .q)) (wordsTerms (setFrom p) (before work) ++ replicate (p .n) 0) ⌝ }
+    ensures { λ _. ⌜ take (p .n + p .n) (after work) ≡ take (p .n + p .n) (before work) ⌝ }
+{
+    let n = p.n as usize;
+    let at = n + n;
+    let stop = terms_end(p);
     let end = stop + n;
     ring::clear(&mut work[stop..end]);
-    encoding::encode(&work[at..end], qlen, public);
+    encoding::encode(&work[at..end], lengths::octets_of_coefficient(p.q), public);
 }
 
-// A secret element, drawn from the octets at a place on, and its octets.
-fn draw_half(random: &[u8], at: usize, p: Parameters, words: &mut [u32], octets: &mut [u8])
-    requires { ⌜ (at + smallLength (setFrom p) ≤ length (now random)) × (length (now words) ≡ p .n) × (length (now octets) ≡ smallLength (setFrom p)) ⌝ }
-    ensures { λ _. ⌜ (now (words .exit) ≡ secretDrawn (setFrom p) (drop at (now (random .entry)))) × (now (octets .exit) ≡ packed (smallBits (p .l)) (smallLength (setFrom p)) (secretDrawn (setFrom p) (drop at (now (random .entry))))) ⌝ }
-{
-    draws::draw_secret(random, at, p, words);
-    packing::pack(words, parameters::bits(p.l), octets);
-}
-
-// u_x and u_y, drawn into the first two parts of the work words, and their octets.
-fn write_secret(random: &[u8], p: Parameters, secret: &mut [u8], work: &mut [u32])
-    requires { ⌜ (secretLength (setFrom p) ≤ length (now random)) × (length (now secret) ≡ secretLength (setFrom p)) × (length (now work) ≡ workLength (setFrom p)) ⌝ }
-    ensures { λ _. ⌜ SecretWritten (setFrom p) (now (random .entry)) (now (secret .exit)) (now (work .exit)) ⌝ }
+// The octets of minus the element in the third part of the work words, over those of the constant.
+fn write_negative(p: Parameters, public: &mut [u8], work: &mut [u32])
+    requires { ⌜ AcceptedSet (setFrom p) × (length (now public) ≡ publicLength (setFrom p)) × (length (now work) ≡ workLength (setFrom p)) × InRing (p .q) (p .n) (part (now work) (2 * p .n)) ⌝ }
+    ensures { λ _. ⌜ after public ≡ withConstant (setFrom p) (part (before work) (2 * p .n)) (before public) ⌝ }
 {
     let n = p.n as usize;
-    let stop = n + n;
-    let one = lengths::small_length(p);
-    draw_half(random, 0, p, &mut work[..n], &mut secret[..one]);
-    draw_half(random, one, p, &mut work[n..stop], &mut secret[one..]);
-}
-
-// The octets of the constant that makes the secret in the first two parts of the work words a zero of a key whose constant is 0.
-fn write_constant(public: &mut [u8], d: usize, n: usize, qlen: usize, q: u32, work: &mut [u32])
-    requires { ⌜ Sizes n qlen (now work) × (0 < d) × (d ≤ 4) × (length (now public) ≡ monomialCount d * n * qlen) × (16 ≤ q) × (q < 2147483648) ⌝ }
-    requires { ⌜ ((m : ℕ) → m < monomialCount d * n → coefficientAt qlen (now public) m < q) ⌝ }
-    requires { ⌜ InRing 16 n (part (now work) 0) × InRing 16 n (part (now work) n) ⌝ }
-    ensures { λ _. ⌜ now (public .exit) ≡ take (length (now (public .entry)) - n * qlen) (now (public .entry)) ++ encoded qlen (tabulate n (λ k. (q - value n d (flat n qlen (now (public .entry))) (part (now (work .entry)) 0) (part (now (work .entry)) n) k % q) % q)) ⌝ }
-{
-    values::evaluate(public, d, n, qlen, q, work);
+    let qlen = lengths::octets_of_coefficient(p.q);
     let at = 2 * n;
-    ring::negate(work, at, n, q);
     let stop = at + n;
+    ring::negate(work, at, n, p.q);
     let from = public.len() - n * qlen;
     encoding::encode(&work[at..stop], qlen, &mut public[from..]);
 }
 
-// Both keys, once the elements of every term but the constant are drawn.
-fn write_keys(random: &[u8], p: Parameters, secret: &mut [u8], public: &mut [u8], work: &mut [u32])
-    requires { ⌜ Ready (setFrom p) (now random) (now secret) (now public) (now work) ⌝ }
-    ensures { λ _. ⌜ KeysWritten (setFrom p) (now (random .entry)) (now (work .entry)) (now (secret .exit)) (now (public .exit)) (now (work .exit)) ⌝ }
+// The octets of the constant that makes the secret in the first two parts of the work words a zero of a key whose constant is 0.
+fn write_constant(p: Parameters, public: &mut [u8], work: &mut [u32])
+    requires { ⌜ AcceptedSet (setFrom p) × (length (now public) ≡ publicLength (setFrom p)) × (length (now work) ≡ workLength (setFrom p)) ⌝ }
+    requires { ⌜ (elementsFit (setFrom p) (monomialCount (p .dx)) (now public) ≡ true) × InRing 16 (p .n) (part (now work) 0) × InRing 16 (p .n) (part (now work) (p .n)) ⌝ }
+    ensures { λ _. ⌜ after public ≡ withConstant (setFrom p) (valueIn (setFrom p) (before public) (before work)) (before public) ⌝ }
 {
-    let n = p.n as usize;
     let qlen = lengths::octets_of_coefficient(p.q);
-    let elements = lengths::monomial_count(p.dx) - 1;
-    write_terms(work, elements, n, qlen, public);
-    write_secret(random, p, secret, work);
-    write_constant(public, p.dx as usize, n, qlen, p.q, work);
-    ring::clear(work);
+    values::evaluate(public, p.dx as usize, p.n as usize, qlen, p.q, work);
+    write_negative(p, public, work);
+}
+
+// The public key's octets.
+fn write_public(p: Parameters, public: &mut [u8], work: &mut [u32])
+    requires { ⌜ KeyWords (setFrom p) (now work) × (length (now public) ≡ publicLength (setFrom p)) ⌝ }
+    ensures { λ _. ⌜ after public ≡ publicIn (setFrom p) (before work) ⌝ }
+{
+    write_terms(p, public, work);
+    write_constant(p, public, work);
+}
+
+// With all drawn: both keys, and how many octets they took.
+fn keygen_drawn(
+    p: Parameters,
+    groups: usize,
+    secret: &mut [u8],
+    public: &mut [u8],
+    work: &mut [u32],
+    used: &mut u64,
+) -> u32
+    requires { ⌜ KeyWords (setFrom p) (now work) × (length (now secret) ≡ secretLength (setFrom p)) × (length (now public) ≡ publicLength (setFrom p)) × (secretLength (setFrom p) + qlen (p .q) * groups < 2 ^ 64) ⌝ }
+    ensures { λ r. ⌜ Writes (setFrom p) groups secret public work used r ⌝ }
+{
+    write_secret(p, secret, work);
+    write_public(p, public, work);
+    *used = (lengths::secret_length(p) + lengths::octets_of_coefficient(p.q) * groups) as u64;
+    ring::cleared(work, 0)
+}
+
+// With the octets of the secret counted: all is drawn before an output is written.
+fn keygen_counted(
+    p: Parameters,
+    random: &[u8],
+    secret: &mut [u8],
+    public: &mut [u8],
+    work: &mut [u32],
+    used: &mut u64,
+) -> u32
+    requires { ⌜ AcceptedSet (setFrom p) × (keysExact (setFrom p) (length (now secret)) (length (now public)) (length (now work)) ≡ true) × (secretLength (setFrom p) ≤ length (now random)) ⌝ }
+    ensures { λ r. ⌜ Makes (setFrom p) random secret public work used r ⌝ }
+{
+    draw_halves(p, random, work);
+    let Run::Complete(groups) = draw_terms(p, random, work) else {
+        return ring::cleared(work, refusals::EXHAUSTED);
+    };
+    keygen_drawn(p, groups, secret, public, work, used)
 }
 
 pub fn keygen(
@@ -106,29 +176,14 @@ pub fn keygen(
     work: &mut [u32],
     used: &mut u64,
 ) -> u32
-    ensures { λ r. ⌜ _≡_ {A = KeygenExit} (record { refusal = r; secret = now (secret .exit); public = now (public .exit); used = now (used .exit); work = now (work .exit) }) (keygenExit (setFrom p) (now (random .entry)) (now (secret .entry)) (now (public .entry)) (now (used .entry)) (now (work .entry))) ⌝ }
+    requires { ⌜ AcceptedSet (setFrom p) ⌝ }
+    ensures { λ r. ⌜ Makes (setFrom p) random secret public work used r ⌝ }
 {
-    let refused = parameters::refusal(p);
-    if refused != 0 {
-        return refused;
-    }
-    let start = lengths::secret_length(p);
-    if secret.len() != start {
+    if !lengths::keys_exact(p, secret.len(), public.len(), work.len()) {
         return refusals::LENGTH;
     }
-    if public.len() != lengths::public_length(p) {
-        return refusals::LENGTH;
-    }
-    if work.len() != lengths::work_length(p) {
-        return refusals::LENGTH;
-    }
-    if random.len() < start {
+    if random.len() < lengths::secret_length(p) {
         return ring::cleared(work, refusals::EXHAUSTED);
     }
-    let Run::Complete(groups) = draw_others(random, p, work) else {
-        return ring::cleared(work, refusals::EXHAUSTED);
-    };
-    write_keys(random, p, secret, public, work);
-    *used = (start + lengths::octets_of_coefficient(p.q) * groups) as u64;
-    0
+    keygen_counted(p, random, secret, public, work, used)
 }

@@ -1,20 +1,32 @@
--- `draw_half` is right because what `draw_secret` leaves is packed, and its coefficients have b bits.
+-- `draw_half` is right because the draw is lent just the words from its place on.
 -- Assumes nothing.
-use lib.ListN.{drop}
+use Prim.Native.Nat.{_+_}
+use native.Mathlib.Omega.{arith}
 use borrow.Author.Needs.{needs}
-use Rattle.parameters.specs.Answers.{setFrom}
-use Rattle.key_generation.proofs.Halves.{secretDrawn-fits}
+use Rattle.key_generation.proofs.Parts.{put-follows}
 use Rattle.key_generation.proofs.draw_half.Statement.{statement}
 use Rattle.key_generation.proofs.draw_half.Tie as tie
 
-pack-requires : tie.Need-pack-requires
-pack-requires c κs = let a = c .before .before .before .before .before .before .before .before .before .before .args in
-    secretDrawn-fits (setFrom (a .p)) (drop (a .at) (a .random .now)) (c .before .bits .ensures) (c .before .before .before .before .before .draw-secret .ensures)
+abbrev start : tie.After-draw-secret → tie.Start
+start c = c .before .before .before .before .before
 
 returns : tie.Need-returns
-returns c = (c .before .before .before .before .before .before .before .before .draw-secret .ensures, rw (c .before .before .before .before .bits .ensures, c .before .before .before .before .before .before .before .before .before .before .before .before .before .pre .2, c .before .before .before .before .before .before .before .before .draw-secret .ensures) at (c .before .before .pack .ensures))
+returns c =
+    let run = c .before .before .draw-secret in
+    let s = start (c .before .before) in
+    rw (← run .ensures)
+    (put-follows (s .args .at) (s .args .at + s .args .p .n) (s .args .work .now) (omega arith) (s .pre .1) _ (run .kept .1 .1 .1 .0))
 
 pub draw-half-spec : {M : Type 1} → statement M
 draw-half-spec =
     tie.close
-    (tie.spec (λ c κs. search needs) (λ c κs. search needs) pack-requires (λ c. search needs) (λ c. search needs) returns)
+    (tie.spec
+    (λ c. search needs)
+    (λ c. search needs)
+    (λ c. search needs)
+    (λ c. search needs)
+    (λ c. search needs)
+    (λ c. search needs)
+    (λ c κs. search needs)
+    (λ c. search needs)
+    returns)

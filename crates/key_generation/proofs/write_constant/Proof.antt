@@ -1,60 +1,85 @@
--- `write_constant` is right because the value of the key with constant 0 is that of the other terms, and the constant is its negative.
+-- `write_constant` is right because the constant is the negative of the key's value, which `evaluate` leaves in the third part.
 -- Assumes nothing.
-use Prim.Native.Nat.{ℕ, _+_, _-_, _*_, _%_, _≤_, _<_}
-use native.Mathlib.Nat.{mod-lt, mul-le-mul}
+use Prim.Native.Nat.{ℕ, _*_, _<_}
+use native.Mathlib.Nat.{mod-lt}
 use native.Mathlib.Omega.{arith}
 use mathlib.Core.Path.{_≡_, sym, ap, _∙_}
+use mathlib.Core.Logic.{⊎-elim}
 use lib.ListN.{length}
 use borrow.Author.Needs.{needs}
-use Rattle.definitions.specs.Monomials.{value}
-use Rattle.definitions.proofs.Filling.{length-borrowed}
+use Rattle.definitions.specs.Parameters.{qlen, elementsLength, publicLength, workLength}
+use Rattle.definitions.specs.Calls.{elementsFit, decodedElements}
+use Rattle.definitions.proofs.Parameters.{Accepted, accepted-set, modulus-positive, modulus-word, qlen-least, qlen-most, key-degree-most}
+use Rattle.definitions.proofs.Octets.{coefficientsFit-at}
+use Rattle.parameters.specs.Answers.{setFrom}
 use Rattle.ring.specs.Work.{part}
-use Rattle.decoding.specs.Elements.{flat}
-use Rattle.judging.proofs.Judged.{fitNumber-below}
-use Rattle.key_generation.proofs.Parts.{tail-length, constant-room, constant-placed}
+use Rattle.values.specs.Folding.{Sizes}
+use Rattle.key_generation.specs.Keys.{valueIn}
+use Rattle.key_generation.proofs.Constant.{withConstant-cong}
 use Rattle.key_generation.proofs.write_constant.Statement.{statement}
 use Rattle.key_generation.proofs.write_constant.Tie as tie
 
--- the value stands in the third part of as many work words
-inside : (c : tie.After-evaluate) → 2 * c .before .before .before .before .before .args .n + c .before .before .before .before .before .args .n ≤ length (c .evaluate .last .1 .1 .1 .1 .1 .0)
-inside c = omega (arith, c .evaluate .kept .1 .1 .1 .1 .1 .0, c .before .before .before .before .before .pre .0 .0 .room)
+abbrev start : tie.After-octets-of-coefficient → tie.Start
+start c = c .before .before .before
 
--- nothing is refused: the octets were just written, each coefficient below q
-valued : (c : tie.After-evaluate) → let a = c .before .before .before .before .before .args in
-    (k : ℕ) → k < a .n → part (c .evaluate .last .1 .1 .1 .1 .1 .0) (2 * a .n) k ≡ value (a .n) (a .d) (flat (a .n) (a .qlen) (a .public .now)) (part (a .work .now) 0) (part (a .work .now) (a .n)) k % a .q
-valued c = c .evaluate .ensures .1 (c .evaluate .ensures .0 ∙ fitNumber-below _ _ _ _ (c .before .before .before .before .before .pre .1 .0))
+abbrev sized : tie.After-evaluate → tie.After-octets-of-coefficient
+sized c = c .before .before .before .before .before
 
-negate-requires : tie.Need-negate-requires
-negate-requires c κs =
-    let most : 0 < c .before .before .before .before .before .before .before .before .args .q = omega (arith, c .before .before .before .before .before .before .before .before .pre .0 .4) in
-    (inside (c .before .before .before), (λ k l. rw (valued (c .before .before .before) k l) (mod-lt _ most)))
+set : (c : tie.Start) → Accepted (setFrom (c .args .p))
+set c = accepted-set _ (c .pre .0 .0)
 
-mul-from : tie.Need-mul-from
-mul-from c = let sizes = c .before .before .before .before .before .before .before .before .before .before .before .pre .0 .0 in
-    omega (arith, mul-le-mul (sizes .most) (sizes .octets-most))
+sizes : (c : tie.Start) → Sizes (c .args .p .n) (qlen (c .args .p .q)) (c .args .work .now)
+unfolding workLength
+sizes c =
+    record {
+      places = omega (arith, set c .ring-least);
+      most = set c .ring-most;
+      octets-least = qlen-least _ (modulus-positive _ (set c)) (modulus-word _ (set c));
+      octets-most = qlen-most _;
+      room = c .pre .0 .2;
+    }
 
--- and the constant's octets at the end of the key's
-room : (c : tie.Start) → c .args .n * c .args .qlen ≤ length (c .args .public .now)
-room c = omega (arith, constant-room (c .args .d) (c .args .n) (c .args .qlen), c .pre .0 .3)
+evaluate-requires : tie.Need-evaluate-requires
+unfolding publicLength elementsLength elementsFit decodedElements
+evaluate-requires c κs =
+    let o = c .before .before .before .before in
+    let s = start o in
+    rw (o .octets-of-coefficient .ensures)
+    (
+      (
+        sizes s,
+        ⊎-elim (λ e. omega arith) (λ e. omega arith) (set s .key-degree),
+        omega (arith, key-degree-most _ (set s)),
+        s .pre .0 .1,
+        modulus-positive _ (set s),
+        omega (arith, set s .modulus-most),
+      ),
+      ((λ m l. coefficientsFit-at _ _ _ _ (s .pre .1 .0) l), (s .pre .1 .1, s .pre .1 .2)),
+    )
 
-sub-from : tie.Need-sub-from
-sub-from c = room (c .before .before .before .before .before .before .before .before .before .before .before)
+-- the value stands in the third part
+value-there : (c : tie.After-evaluate) (k : ℕ) → k < start (sized c) .args .p .n
+    → part (c .evaluate .last .1 .1 .1 .1 .1 .0) (2 * start (sized c) .args .p .n) k
+    ≡ valueIn (setFrom (start (sized c) .args .p)) (start (sized c) .args .public .now) (start (sized c) .args .work .now) k
+value-there c k l = rw (sized c .octets-of-coefficient .ensures) at (c .evaluate .ensures k l)
 
-encode-requires : tie.Need-encode-requires
-encode-requires c κs = let s = c .before .before .before .before .before .before .before .before .before .before .before .before .before .before in
-    let at : ℕ = length (s .args .public .now) - s .args .n * s .args .qlen in
-    let octets : length (s .args .public .now) - at ≡ s .args .n * s .args .qlen = omega (arith, room s) in (
-      s .pre .0 .0 .octets-least,
-      s .pre .0 .0 .octets-most,
-      tail-length at (s .args .public .now) (omega arith)
-          ∙ octets
-          ∙ ap (λ (m : ℕ). m * s .args .qlen) (sym (length-borrowed (2 * s .args .n) (s .args .n) _ (omega (arith, inside (c .before .before .before .before .before .before .before .before .before), c .before .before .before .before .before .negate .kept .0)))),
+write-negative-requires : tie.Need-write-negative-requires
+write-negative-requires c κs =
+    let v = c .before .before .before .before in
+    let s = start (sized v) in
+    (
+      s .pre .0 .0,
+      s .pre .0 .1,
+      v .evaluate .kept .1 .1 .1 .1 .1 .0 ∙ s .pre .0 .2,
+      (λ k l. rw (value-there v k l) (mod-lt _ (modulus-positive _ (set s)))),
     )
 
 returns : tie.Need-returns
-returns c = let a = c .before .before .before .before .before .before .before .before .before .before .before .before .before .before .before .before .before .args in
-    constant-placed (a .n) (a .qlen) (a .q) (a .public .now) (c .before .before .encode .last .1 .1 .0) (c .before .before .before .before .before .before .before .before .before .before .before .before .evaluate .last .1 .1 .1 .1 .1 .0) (c .before .before .before .before .before .before .before .before .negate .last .0)
-    (value (a .n) (a .d) (flat (a .n) (a .qlen) (a .public .now)) (part (a .work .now) 0) (part (a .work .now) (a .n))) (room (c .before .before .before .before .before .before .before .before .before .before .before .before .before .before .before .before .before)) (inside (c .before .before .before .before .before .before .before .before .before .before .before .before)) (valued (c .before .before .before .before .before .before .before .before .before .before .before .before)) (c .before .before .before .before .before .before .before .before .negate .ensures) (c .before .before .encode .ensures)
+returns c =
+    let v = c .before .before .before .before .before .before .before .before .before in
+    let s = start (sized v) in
+    c .before .before .before .before .write-negative .ensures
+    ∙ withConstant-cong (setFrom (s .args .p)) (s .args .public .now) (value-there v)
 
 pub write-constant-spec : {M : Type 1} → statement M
 write-constant-spec =
@@ -62,18 +87,9 @@ write-constant-spec =
     (tie.spec
     (λ c κs. search needs)
     (λ c. search needs)
-    negate-requires
     (λ c. search needs)
-    mul-from
-    sub-from
-    (λ c. search needs)
-    (λ c. search needs)
-    (λ c. search needs)
-    (λ c. search needs)
-    (λ c. search needs)
-    (λ c. search needs)
-    (λ c. search needs)
-    encode-requires
+    evaluate-requires
+    write-negative-requires
     (λ c. search needs)
     (λ c. search needs)
     returns)

@@ -1,0 +1,60 @@
+-- `draw_terms` is right because the run is lent just the words of the terms, behind those of u_x and u_y.
+-- Assumes nothing.
+use Prim.Native.Nat.{_+_, _≤_}
+use native.Mathlib.Omega.{arith}
+use mathlib.Core.Path.{_≡_}
+use lib.ListN.{length}
+use borrow.Author.Needs.{needs}
+use Rattle.definitions.specs.Parameters.{workLength}
+use Rattle.definitions.proofs.Parameters.{Accepted, accepted-set, modulus-positive}
+use Rattle.parameters.specs.Answers.{setFrom}
+use Rattle.key_generation.proofs.Words.{termsEnd-room, terms-drawn}
+use Rattle.key_generation.proofs.draw_terms.Statement.{statement}
+use Rattle.key_generation.proofs.draw_terms.Tie as tie
+
+abbrev start : tie.After-terms-end → tie.Start
+start c = c .before .before .before .before
+
+abbrev ended : tie.After-secret-length → tie.After-terms-end
+ended c = c .before
+
+set : (c : tie.Start) → Accepted (setFrom (c .args .p))
+set c = accepted-set _ (c .pre .0)
+
+-- the words of the terms lie inside the work words
+inside : (c : tie.After-terms-end) → c .terms-end .result ≤ length (start c .args .work .now)
+unfolding workLength
+inside c = omega (arith, termsEnd-room _ (set (start c)), c .terms-end .ensures, start c .pre .2)
+
+part-draw-below-end : tie.Need-part-draw-below-end
+part-draw-below-end c = omega (arith, inside (ended c))
+
+draw-below-requires : tie.Need-draw-below-requires
+draw-below-requires c κs =
+    let l = c .before in
+    let s = start (ended l) in
+    (rw (l .secret-length .ensures) (s .pre .1), modulus-positive _ (set s), omega (arith, set s .modulus-most))
+
+returns : tie.Need-returns
+returns c =
+    let run = c .before .before .draw-below in
+    let l = c .before .before .before .before in
+    let a = start (ended l) .args in
+    terms-drawn (setFrom (a .p)) (a .random .now) (a .work .now) (run .last .1 .1 .1 .0) (run .result) (l .secret-length .ensures)
+    (ended l .terms-end .ensures) (inside (ended l)) (run .kept .1 .1 .1 .0) (run .ensures)
+
+pub draw-terms-spec : {M : Type 1} → statement M
+draw-terms-spec =
+    tie.close
+    (tie.spec
+    (λ c. search needs)
+    (λ c. search needs)
+    (λ c κs. search needs)
+    (λ c κs. search needs)
+    (λ c. search needs)
+    (λ c. search needs)
+    (λ c. search needs)
+    part-draw-below-end
+    draw-below-requires
+    (λ c. search needs)
+    returns)

@@ -1,0 +1,106 @@
+-- `keygen_counted` is right because what it refuses leaves the outputs as they were, and all is drawn where it writes them.
+-- Assumes nothing.
+use Prim.Native.Nat.{ℕ, _*_}
+use native.Mathlib.Omega.{arith}
+use mathlib.Core.Path.{_≡_, sym, ap, _∙_}
+use mathlib.Core.Bool.{true}
+use lib.ListN.{length, replicate}
+use borrow.Author.Needs.{needs}
+use Rattle.definitions.specs.Parameters.{qlen, secretLength, publicLength, workLength}
+use Rattle.definitions.specs.Draws.{Drawn}
+use Rattle.definitions.specs.Calls.{keyDraws}
+use Rattle.definitions.proofs.Calls.{keysExact-told}
+use Rattle.parameters.specs.Answers.{setFrom}
+use Rattle.draws.proofs.Runs.{said-complete, said-exhausted}
+use Rattle.key_generation.specs.Keys.{wordsTerms, HalvesDrawn}
+use Rattle.key_generation.proofs.Words.{halves-kept, key-words, used-room}
+use Rattle.key_generation.proofs.Returns.{keygen-exhausted, keygen-written}
+use Rattle.key_generation.proofs.keygen_counted.Statement.{statement}
+use Rattle.key_generation.proofs.keygen_counted.Tie as tie
+
+abbrev start : tie.After-draw-halves → tie.Start
+start c = c .before .before .before .before .before .before
+
+abbrev halves : tie.After-draw-terms → tie.After-draw-halves
+halves c = c .before .before .before .before
+
+abbrev drawn : tie.After-known-told → tie.After-draw-terms
+drawn c = c .before .before .before .before .before
+
+exact : (c : tie.Start)
+    → (length (c .args .secret .now) ≡ secretLength (setFrom (c .args .p)))
+    × (length (c .args .public .now) ≡ publicLength (setFrom (c .args .p))) × (length (c .args .work .now) ≡ workLength (setFrom (c .args .p)))
+exact c = keysExact-told (setFrom (c .args .p)) (c .pre .1)
+
+-- the work words keep their length over both draws
+as-long : (c : tie.After-draw-terms) → length (c .draw-terms .last .1 .1 .0) ≡ length (start (halves c) .args .work .now)
+as-long c = c .draw-terms .kept .1 .1 .0 ∙ halves c .draw-halves .kept .1 .1 .0
+
+draw-halves-requires : tie.Need-draw-halves-requires
+draw-halves-requires c κs = let s = c .before .before .before .before .before in (s .pre .2, exact s .2)
+
+draw-terms-requires : tie.Need-draw-terms-requires
+draw-terms-requires c κs =
+    let h = c .before .before .before in
+    let s = start h in
+    (s .pre .0, s .pre .2, h .draw-halves .kept .1 .1 .0 ∙ exact s .2)
+
+returns : tie.Need-returns
+returns c =
+    let end = c .before .before .cleared .ensures in
+    let d = c .before .before .before .before .before .before .before .before in
+    let s = start (halves d) in
+    let a = s .args in
+    keygen-exhausted (setFrom (a .p)) (a .random .now) (a .secret .now) (a .public .now) (a .used .now) (a .work .now) (s .pre .0) (s .pre .1) (s .pre .2)
+    (said-exhausted _ _ (c .before .before .before .before .enum-told .given .1) (d .draw-terms .ensures .0))
+    (end .0, end .1 ∙ ap (λ (m : ℕ). replicate m 0) (as-long d))
+
+-- all that was drawn
+secret : (c : tie.After-draw-terms)
+    → HalvesDrawn (setFrom (start (halves c) .args .p)) (start (halves c) .args .random .now) (c .draw-terms .last .1 .1 .0)
+secret c = halves-kept _ _ _ (halves c .draw-halves .last .1 .1 .0) (halves c .draw-halves .ensures) (c .draw-terms .ensures .1)
+
+terms : (c : tie.After-known-told)
+    → (let s = start (halves (drawn c)) in
+    keyDraws (setFrom (s .args .p)) (s .args .random .now)
+    ≡ record { values = wordsTerms (setFrom (s .args .p)) (drawn c .draw-terms .last .1 .1 .0); groups = c .before .groups .given .0 .0; enough = true })
+terms c = said-complete _ _ (c .before .groups .given .1) (drawn c .draw-terms .ensures .0)
+
+keygen-drawn-requires : tie.Need-keygen-drawn-requires
+keygen-drawn-requires c κs =
+    let k = c .before .before .before .before in
+    let d = drawn k in
+    let s = start (halves d) in
+    let p = setFrom (s .args .p) in
+    (
+      key-words p (s .args .random .now) _ (s .pre .0) (as-long d ∙ exact s .2) (secret d) (ap (λ (x : Drawn). x .values) (sym (terms k))),
+      exact s .0,
+      exact s .1,
+      omega (arith, used-room p (s .args .random .now) (s .pre .2), ap (λ (x : Drawn). qlen (p .q) * x .groups) (terms k), s .good .1 .0 .1),
+    )
+
+returns-2 : tie.Need-returns-2
+returns-2 c =
+    let k = c .before .before .before .before .before .before .before .before .before .before .before in
+    let s = start (halves (drawn k)) in
+    let a = s .args in
+    c .before .before .before .before .before .before .keygen-drawn .ensures
+    ∙ keygen-written (setFrom (a .p)) (a .random .now) (a .secret .now) (a .public .now) (a .used .now) (a .work .now) (s .pre .0) (s .pre .1) (s .pre .2)
+    _ _ (as-long (drawn k)) (secret (drawn k)) (terms k)
+
+pub keygen-counted-spec : {M : Type 1} → statement M
+keygen-counted-spec =
+    tie.close
+    (tie.spec
+    draw-halves-requires
+    draw-terms-requires
+    (λ c. search needs)
+    (λ c. search needs)
+    (λ c κs. search needs)
+    (λ c. search needs)
+    returns
+    keygen-drawn-requires
+    (λ c. search needs)
+    (λ c. search needs)
+    (λ c. search needs)
+    returns-2)
