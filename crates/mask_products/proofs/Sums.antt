@@ -1,8 +1,10 @@
 -- What a step does to the sum in part 7: it is added to, modulo q, and the mask in the first six parts stays. What goes by the mask alone is
 -- then the same before and after a step, so that steps compose.
 --
---   mask-at, mask-same   the mask's element j stands in part j;  the mask is as it was where the words of the first six parts are
---   lent-wrote       a part was lent and filled;  sum-wrote: the sum was written;  sum-cong: the same sum modulo q, in another form;  sum-then: an element was added to it
+--   mask-at, mask-same   the mask's element j stands in part j;  the mask is as it was where the words of the first six parts are, and
+--                    only there (word-kept);  spare-mask: it is where part 6 was written;  lent-wrote: a part was lent and filled
+--   sum-wrote        the sum was written;  sum-gains: an element was added in place;  sum-cong: the same sum modulo q, in another form
+--   sum-then         an element was added to a sum
 --   gains-none, -by  nothing was added;  gains-spare: part 6 was filled first
 --   terms-none, -more    so many terms were added;  terms-product: all, from 0 on, are the product
 --   inputs-kept, adding-kept   what is asked of the work words at entry still holds after a step
@@ -55,6 +57,10 @@ module _ (p : Parameters) where
       let inside : i < 6 * p .n = omega (arith, length-take (6 * p .n) new) in
       getD-take (6 * p .n) new i 0 inside ∙ same i inside ∙ sym (getD-take (6 * p .n) old i 0 inside))
 
+  pub word-kept : (old new : List ℕ) {i : ℕ} → take (6 * p .n) new ≡ take (6 * p .n) old → i < 6 * p .n → getD new i 0 ≡ getD old i 0
+  word-kept old new {i} same l =
+      sym (getD-take (6 * p .n) new i 0 l) ∙ ap (λ (w : List ℕ). getD w i 0) same ∙ getD-take (6 * p .n) old i 0 l
+
   -- part 6 was written
   pub spare-mask : {old mid : List ℕ} {a : Element} → Wrote (6 * p .n) (p .n) a old mid → take (6 * p .n) mid ≡ take (6 * p .n) old
   spare-mask {old} {mid} w = mask-same old mid (w .as-long) (w .before)
@@ -63,6 +69,10 @@ module _ (p : Parameters) where
       → ((k : ℕ) → k < p .n → g k ≡ f (maskIn p old) k % p .q) → SumIs p f old new
   sum-wrote {old = old} {new = new} w h =
       record { sum = λ k l. w .inside k l ∙ h k l; mask = mask-same old new (w .as-long) (λ i l. w .before i (omega arith)); as-long = w .as-long }
+
+  -- an element was added in place
+  pub sum-gains : {e : Element} {old new : List ℕ} → Wrote (7 * p .n) (p .n) (λ k. (sumIn p old k + e k) % p .q) old new → SumGains p (λ mask. e) old new
+  sum-gains w = record { is = sum-wrote w (λ k l. refl) }
 
 -- a part that was lent and filled
 pub lent-wrote : (at n : ℕ) (old ys : List ℕ) {new : List ℕ} → new ≡ ys → length ys ≡ n → at + n ≤ length old

@@ -2,10 +2,10 @@
 -- Assumes nothing.
 use Prim.Native.Nat.{ℕ, _+_, _-_, _≤_, _<_}
 use native.Mathlib.Omega.{arith}
-use mathlib.Core.Path.{_≡_, refl, ap, ap₂}
-use mathlib.Core.Bool.{Bool, true, _&&_}
+use mathlib.Core.Path.{_≡_, refl, sym, _∙_, ap, ap₂}
+use mathlib.Core.Bool.{Bool, true, false, cond, _&&_, not}
 use mathlib.Core.List.{List, [], _∷_}
-use borrow.Author.Tests.{eqb-true}
+use borrow.Author.Tests.{eqb-true, not-true, not-false}
 use lib.Dec.{eqb}
 use lib.ListN.{getD}
 use Rattle.definitions.specs.Sequences.{every, tabulate}
@@ -67,3 +67,10 @@ exponents-small d i e same =
     let x : e .x ≡ monomialAt d i .x = ap (λ (m : Monomial). m .x) same in
     let y : e .y ≡ monomialAt d i .y = ap (λ (m : Monomial). m .y) same in
     omega (arith, monomials-degree d i)
+
+-- a test that was told as a number
+pub flag-none : (t : Bool) {x : ℕ} → cond t 1 0 ≡ x → not t ≡ true → x ≡ 0
+flag-none t e h = sym e ∙ ap (λ (u : Bool). cond u 1 0) (not-true t h)
+
+pub flag-one : (t : Bool) {x : ℕ} → cond t 1 0 ≡ x → not t ≡ false → x ≡ 1
+flag-one t e h = sym e ∙ ap (λ (u : Bool). cond u 1 0) (not-false t h)

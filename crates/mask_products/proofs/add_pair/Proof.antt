@@ -1,18 +1,15 @@
 -- `add_pair` leaves the sum where the pair's product is another monomial, and otherwise loads the key's element and adds the product.
 -- Assumes nothing.
-use Prim.Native.Nat.{ℕ, _*_}
+use Prim.Native.Nat.{_*_}
 use native.Mathlib.Nat.{mul-one, mul-zero}
 use native.Mathlib.Omega.{arith}
-use mathlib.Core.Path.{_≡_, refl, sym, _∙_, ap}
-use mathlib.Core.Bool.{Bool, cond}
+use mathlib.Core.Path.{refl, _∙_}
 use borrow.Author.Needs.{needs}
-use borrow.Author.Tests.{not-true, not-false}
-use Rattle.definitions.specs.Monomials.{monomialAt, sameMonomial}
-use Rattle.definitions.specs.Parameters.{degree}
 use Rattle.definitions.specs.Calls.{polynomialFrom}
 use Rattle.definitions.proofs.Parameters.{key-degree-most, mask-degree-most}
 use Rattle.definitions.proofs.Ring.{conv-cong}
 use Rattle.parameters.specs.Answers.{setFrom}
+use Rattle.monomials.proofs.Table.{flag-none, flag-one}
 use Rattle.karatsuba.proofs.Steps.{Wrote, wrote, inside-ring}
 use Rattle.mask_products.specs.Products.{pairTerm}
 use Rattle.mask_products.proofs.Sums.{inputs-set, inputs-room, mask-few, key-below, spare-mask, gains-none, gains-spare}
@@ -31,17 +28,12 @@ same-monomial-requires c κs =
     let set = inputs-set (s .pre .0 .inputs) in
     (key-degree-most _ set, mask-degree-most _ set, s .pre .1, s .pre .2, s .pre .0 .place)
 
--- whether the pair gives the m-th monomial, as a number
-flag : (c : tie.After-same-monomial) {b : Bool} → c .same-monomial .result ≡ b
-    → sameMonomial (monomialAt (start c .args .p .dx) (start c .args .i)) (monomialAt (start c .args .p .dr) (start c .args .j)) (monomialAt (degree (setFrom (start c .args .p))) (start c .args .m))
-    ≡ cond b 1 0
-flag c e = sym (c .same-monomial .ensures) ∙ ap (λ (b : Bool). cond b 1 0) e
-
 returns : tie.Need-returns
 returns c =
     let s = start (c .before) in
+    let none = flag-none (c .before .same-monomial .result) (c .before .same-monomial .ensures) (c .if1 .taken) in
     gains-none (pairTerm (setFrom (s .args .p)) (polynomialFrom (setFrom (s .args .p)) (s .args .public .now)) (s .args .m) (s .args .i) (s .args .j)) (s .pre .0 .below)
-    (λ k l. rw (flag (c .before) (not-true _ (c .if1 .taken))) (mul-zero _))
+    (λ k l. rw none (mul-zero _))
 
 -- the key's element in part 6
 loaded : (c : tie.After-load-key) → Wrote (6 * start (tested c .before) .args .p .n) (start (tested c .before) .args .p .n)
@@ -65,9 +57,10 @@ returns-2 c =
     let t = tested call in
     let s = start (t .before) in
     let w = loaded call in
+    let one = flag-one (t .before .same-monomial .result) (t .before .same-monomial .ensures) (t .if1 .left) in
     gains-spare (pairTerm (setFrom (s .args .p)) (polynomialFrom (setFrom (s .args .p)) (s .args .public .now)) (s .args .m) (s .args .i) (s .args .j)) w
     (c .before .before .multiply-mask .ensures)
-    (λ k l. conv-cong (s .args .p .n) (w .inside) (λ i b. refl) k ∙ rw (flag (t .before) (not-false _ (t .if1 .left)), mul-one))
+    (λ k l. conv-cong (s .args .p .n) (w .inside) (λ i b. refl) k ∙ rw (one, mul-one))
 
 pub add-pair-spec : {M : Type 1} → statement M
 add-pair-spec =
