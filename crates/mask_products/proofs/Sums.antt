@@ -1,218 +1,193 @@
--- What a turn does to the sum in part 7: it is added to, modulo q, and the first six parts stay.
+-- What a step does to the sum in part 7: it is added to, modulo q, and the mask in the first six parts stays. What goes by the mask alone is
+-- then the same before and after a step, so that steps compose.
 --
---   summed-none      before the first turn;  summed-then: one turn after others;  summed-same: the same sum, written otherwise
---   summed-written   what loading a key element and multiplying leave;  summed-zeros: what clearing leaves
---   inputs-same      what was asked of the work words at entry still holds where the first six parts are as they were;  inputs-kept: after a turn
+--   mask-at, mask-same   the mask's element j stands in part j;  the mask is as it was where the words of the first six parts are, and
+--                    only there (word-kept);  spare-mask: it is where part 6 was written;  lent-wrote: a part was lent and filled
+--   sum-wrote        the sum was written;  sum-gains: an element was added in place;  sum-cong: the same sum modulo q, in another form
+--   sum-then         an element was added to a sum
+--   gains-none, -by  nothing was added;  gains-spare: part 6 was filled first
+--   terms-none, -more    so many terms were added;  terms-product: all, from 0 on, are the product
+--   inputs-kept, adding-kept   what is asked of the work words at entry still holds after a step
 -- Assumes nothing.
-use Prim.Native.Nat.{ℕ, suc, _+_, _*_, _%_, _≤_, _<_}
-use native.Mathlib.Nat.{mod-add-mod, mod-eq-of-lt, mod-lt, mul-le-mul-right, mul-one, mul-zero, add-zero, add-comm, zero-mod}
+use Prim.Native.Nat.{ℕ, suc, _+_, _-_, _*_, _%_, _≤_, _<_}
+use native.Mathlib.Nat.{mod-add-mod, mod-eq-of-lt, mod-lt, mul-le-mul-right, add-zero}
 use native.Mathlib.Numerals.{add-one}
 use native.Mathlib.Omega.{arith}
-use mathlib.Core.Path.{_≡_, refl, sym, _∙_, ap, ap₂, subst}
-use mathlib.Core.Logic.{_⊎_, inl, inr}
-use mathlib.Core.Bool.{Bool, true, false, cond, _&&_}
+use mathlib.Core.Path.{_≡_, refl, sym, _∙_, ap, subst}
 use mathlib.Core.List.{List}
-use lib.Dec.{eqb}
-use borrow.Author.Tests.{eq-eqb}
-use lib.ListN.{length, getD, replicate, length-replicate, getD-replicate}
+use lib.Arith.{digits-lt}
+use lib.ListN.{length, getD, take, length-take}
+use lib.Seq.{ext-getD, getD-take}
+use borrow.Rule.Slice.PartMut.{putMid}
 use Rattle.definitions.specs.Sequences.{sum, tabulate}
-use Rattle.definitions.specs.Parameters.{monomialCount}
-use Rattle.definitions.specs.Ring.{Element, InRing, conv}
-use Rattle.definitions.specs.Monomials.{Monomial, Polynomial, monomialAt, sameMonomial, productOf}
-use Rattle.definitions.proofs.Sums.{sum-cong, length-tabulate}
-use Rattle.definitions.proofs.Ring.{conv-cong}
-use Rattle.definitions.proofs.Monomials.{monomials-degree, sameMonomial-other}
-use Rattle.monomials.specs.Pairs.{monomialFrom}
-use Rattle.monomials.specs.declared.Exponents.{Exponents}
+use Rattle.definitions.specs.Parameters.{Parameters, degree, qlen, monomialCount, publicLength, elementsLength, workLength}
+use Rattle.definitions.specs.Ring.{Element, elementOf, InRing}
+use Rattle.definitions.specs.Monomials.{Polynomial, productOf}
+use Rattle.definitions.specs.Calls.{polynomialFrom, elementsFit, decodedElements}
+use Rattle.definitions.proofs.Parameters.{Accepted, accepted-set, modulus-positive, key-degree-most, mask-degree-most}
+use Rattle.definitions.proofs.Sums.{tabulate-getD}
+use Rattle.definitions.proofs.Congruence.{Cong, cong-of-eq}
+use Rattle.definitions.proofs.Monomials.{monomialCount-mono}
+use Rattle.definitions.proofs.Octets.{coefficientsFit-at}
 use Rattle.ring.specs.Work.{part, written}
-use Rattle.ring.proofs.Work.{part-written, getD-written-before, getD-written, getD-written-after, length-written, length-written-tabulate}
-use Rattle.decoding.specs.Elements.{flat}
-use Rattle.ring.proofs.Lent.{part-room}
-use Rattle.definitions.proofs.Rows.{monomialCount-mono-le}
-use Rattle.mask_products.specs.Products.{maskIn, pairTerm, Inputs, Summed}
+use Rattle.ring.proofs.Lent.{putMid-written}
+use Rattle.ring.proofs.Work.{Wrote, wrote}
+use Rattle.mask_products.specs.Products.{maskIn, sumIn, firstTerms, elementTerms, productTerm, KeyAndMask, Adding, SumIs, SumGains}
+
+pub work-words : (p : Parameters) (work : List ℕ) → length work ≡ workLength p → length work ≡ 8 * p .n
+unfolding workLength
+work-words p work e = e
 
 -- a list of at most degree 2 has at most six monomials
 pub count-six : (d : ℕ) → d ≤ 2 → monomialCount d ≤ 6
-count-six d l = unfold monomialCount in monomialCount-mono-le d 2 l
+unfolding monomialCount
+count-six d l = subst (λ (x : ℕ). monomialCount d ≤ monomialCount x) (let two : d + (2 - d) ≡ 2 = omega arith in two) (monomialCount-mono d (2 - d))
 
--- a test as a number
-flag-cases : (t : Bool) → (_≡_ {A = ℕ} (cond t 1 0) 0) ⊎ (_≡_ {A = ℕ} (cond t 1 0) 1)
-flag-cases true = inr refl
-flag-cases false = inl refl
+pub part-room : (n j most : ℕ) → j < most → j * n + n ≤ most * n
+part-room n j most l = let h : suc j * n ≤ most * n = mul-le-mul-right n l in omega arith
 
-pub sameMonomial-cases : (a b c : Monomial) → (sameMonomial a b c ≡ 0) ⊎ (sameMonomial a b c ≡ 1)
-unfolding sameMonomial
-sameMonomial-cases a b c = flag-cases (eqb (a .x + b .x) (c .x) && eqb (a .y + b .y) (c .y))
+module _ (p : Parameters) where
+  pub mask-at : (work : List ℕ) {j k : ℕ} → j < 6 → k < p .n → maskIn p work j k ≡ part work (j * p .n) k
+  mask-at work {j} {k} few l = getD-take (6 * p .n) work (j * p .n + k) 0 (digits-lt few l)
 
--- what a pair of exponents tells of the monomial that it names
-pub exponents-small : (e : Exponents) (d i : ℕ) → monomialFrom e ≡ monomialAt d i → (e .x ≤ d) × (e .y ≤ d)
-exponents-small e d i same =
-    let x : e .x ≡ monomialAt d i .x = ap (λ (m : Monomial). m .x) same in
-    let y : e .y ≡ monomialAt d i .y = ap (λ (m : Monomial). m .y) same in
-    (omega (arith, x, monomials-degree d i), omega (arith, y, monomials-degree d i))
+  pub mask-same : (old new : List ℕ) → length new ≡ length old → ((i : ℕ) → i < 6 * p .n → getD new i 0 ≡ getD old i 0)
+      → take (6 * p .n) new ≡ take (6 * p .n) old
+  mask-same old new long same =
+      ext-getD 0 _ _ (simp length-take (rw long refl)) (λ i l.
+      let inside : i < 6 * p .n = omega (arith, length-take (6 * p .n) new) in
+      getD-take (6 * p .n) new i 0 inside ∙ same i inside ∙ sym (getD-take (6 * p .n) old i 0 inside))
 
-module _ {a b c : Exponents} {f g h : Monomial} (e1 : monomialFrom a ≡ f) (e2 : monomialFrom b ≡ g) (e3 : monomialFrom c ≡ h) where
-  pub exponents-other-x : (a .x + b .x ≡ c .x → ⊥) → 0 ≡ sameMonomial f g h
-  exponents-other-x z = rw (← e1, ← e2, ← e3) (sym (sameMonomial-other (monomialFrom a) (monomialFrom b) (monomialFrom c) (λ e. z (ap (λ (m : Monomial). m .x) e))))
+  pub word-kept : (old new : List ℕ) {i : ℕ} → take (6 * p .n) new ≡ take (6 * p .n) old → i < 6 * p .n → getD new i 0 ≡ getD old i 0
+  word-kept old new {i} same l =
+      sym (getD-take (6 * p .n) new i 0 l) ∙ ap (λ (w : List ℕ). getD w i 0) same ∙ getD-take (6 * p .n) old i 0 l
 
-  pub exponents-other-y : (a .y + b .y ≡ c .y → ⊥) → 0 ≡ sameMonomial f g h
-  exponents-other-y z = rw (← e1, ← e2, ← e3) (sym (sameMonomial-other (monomialFrom a) (monomialFrom b) (monomialFrom c) (λ e. z (ap (λ (m : Monomial). m .y) e))))
+  -- part 6 was written
+  pub spare-mask : {old mid : List ℕ} {a : Element} → Wrote (6 * p .n) (p .n) a old mid → take (6 * p .n) mid ≡ take (6 * p .n) old
+  spare-mask {old} {mid} w = mask-same old mid (w .as-long) (w .before)
 
-  pub exponents-both : a .x + b .x ≡ c .x → a .y + b .y ≡ c .y → 1 ≡ sameMonomial f g h
-  unfolding sameMonomial
-  exponents-both x y = rw (← e1, ← e2, ← e3, eq-eqb (a .x + b .x) (c .x) x, eq-eqb (a .y + b .y) (c .y) y)
+  pub sum-wrote : {f : Polynomial → Element} {g : Element} {old new : List ℕ} → Wrote (7 * p .n) (p .n) g old new
+      → ((k : ℕ) → k < p .n → g k ≡ f (maskIn p old) k % p .q) → SumIs p f old new
+  sum-wrote {old = old} {new = new} w h =
+      record { sum = λ k l. w .inside k l ∙ h k l; mask = mask-same old new (w .as-long) (λ i l. w .before i (omega arith)); as-long = w .as-long }
 
-pub sum-none : (f : ℕ → ℕ) → sum 0 f ≡ 0
-unfolding sum
-sum-none f = refl
+  -- an element was added in place
+  pub sum-gains : {e : Element} {old new : List ℕ} → Wrote (7 * p .n) (p .n) (λ k. (sumIn p old k + e k) % p .q) old new → SumGains p (λ mask. e) old new
+  sum-gains w = record { is = sum-wrote w (λ k l. refl) }
 
-pub sum-next : (n : ℕ) (f : ℕ → ℕ) → sum (n + 1) f ≡ sum n f + f n
-unfolding sum
-sum-next n f = rw (add-one n)
+-- a part that was lent and filled
+pub lent-wrote : (at n : ℕ) (old ys : List ℕ) {new : List ℕ} → new ≡ ys → length ys ≡ n → at + n ≤ length old
+    → Wrote at n (elementOf ys) old (putMid at (at + n - at) old new)
+lent-wrote at n old ys {new} e sized room =
+    wrote room
+    (putMid-written at n old new (ap length e ∙ sized)
+    ∙ ap (λ (l : List ℕ). written at l old) (e ∙ sym (tabulate-getD ys 0) ∙ ap (λ (c : ℕ). tabulate c (elementOf ys)) sized))
 
-module _ {n q : ℕ} {old : List ℕ} where
-  pub summed-none : {f : Element} → InRing q n (part old (7 * n)) → ((k : ℕ) → k < n → f k ≡ part old (7 * n) k) → Summed n q f old old
-  summed-none r h = record { sum = λ k l. sym (ap (λ (x : ℕ). x % q) (h k l) ∙ mod-eq-of-lt (r k l)); kept = λ i l. refl; as-long = refl }
+module _ {p : Parameters} {old : List ℕ} where
+  pub sum-cong : {f g : Polynomial → Element} {new : List ℕ} → SumIs p f old new
+      → ((k : ℕ) → k < p .n → Cong (p .q) (f (maskIn p old) k) (g (maskIn p old) k)) → SumIs p g old new
+  sum-cong s h = record { sum = λ k l. s .sum k l ∙ h k l .same; mask = s .mask; as-long = s .as-long }
 
-  pub summed-same : {f g : Element} {new : List ℕ} → Summed n q f old new → ((k : ℕ) → k < n → f k ≡ g k) → Summed n q g old new
-  summed-same s h = record { sum = λ k l. s .sum k l ∙ ap (λ (x : ℕ). x % q) (h k l); kept = s .kept; as-long = s .as-long }
-
-  pub summed-then : {f h : Element} {mid new : List ℕ} (g : Element) → Summed n q f old mid → Summed n q (λ k. part mid (7 * n) k + g k) mid new
-      → ((k : ℕ) → k < n → f k + g k ≡ h k) → Summed n q h old new
-  summed-then {f} g s t e =
+  pub sum-then : {f g : Polynomial → Element} (h : Polynomial → Element) {mid new : List ℕ} → SumIs p f old mid → SumGains p g mid new
+      → ((k : ℕ) → k < p .n → f (maskIn p old) k + g (maskIn p old) k ≡ h (maskIn p old) k) → SumIs p h old new
+  sum-then {f} {g} h {mid} s t e =
       record {
         sum = λ k l.
-            t .sum k l
-            ∙ ap (λ (x : ℕ). (x + g k) % q) (s .sum k l)
-            ∙ mod-add-mod (f k) q (g k)
-            ∙ ap (λ (x : ℕ). x % q) (e k l);
-        kept = λ i l. t .kept i l ∙ s .kept i l;
-        as-long = t .as-long ∙ s .as-long;
+            t .is .sum k l
+            ∙ ap (λ (w : List ℕ). (sumIn p mid k + g (λ j i. getD w (j * p .n + i) 0) k) % p .q) (s .mask)
+            ∙ ap (λ (x : ℕ). (x + g (maskIn p old) k) % p .q) (s .sum k l)
+            ∙ mod-add-mod (f (maskIn p old) k) (p .q) (g (maskIn p old) k)
+            ∙ ap (λ (x : ℕ). x % p .q) (e k l);
+        mask = t .is .mask ∙ s .mask;
+        as-long = t .is .as-long ∙ s .as-long;
       }
 
-  pub summed-inRing : {f : Element} {new : List ℕ} → 0 < q → Summed n q f old new → InRing q n (part new (7 * n))
-  summed-inRing {f} pos s k l = subst (λ (x : ℕ). x < q) (sym (s .sum k l)) (mod-lt (f k) pos)
+  pub sum-inRing : {f : Polynomial → Element} {new : List ℕ} → 0 < p .q → SumIs p f old new → InRing (p .q) (p .n) (sumIn p new)
+  sum-inRing {f} pos s k l = subst (λ (x : ℕ). x < p .q) (sym (s .sum k l)) (mod-lt (f (maskIn p old) k) pos)
 
-  pub mask-kept : {f : Element} {new : List ℕ} → Summed n q f old new → {j : ℕ} → j < 6 → (k : ℕ) → k < n → maskIn n new j k ≡ maskIn n old j k
-  mask-kept s {j} h k l = s .kept (j * n + k) (omega (arith, part-room n j 6 h))
+  -- nothing is added
+  pub gains-none : (g : Polynomial → Element) → InRing (p .q) (p .n) (sumIn p old) → ((k : ℕ) → k < p .n → g (maskIn p old) k ≡ 0) → SumGains p g old old
+  gains-none g below h =
+      record {
+        is =
+            record {
+              sum = λ k l. sym (ap (λ (x : ℕ). (sumIn p old k + x) % p .q) (h k l) ∙ rw add-zero (mod-eq-of-lt (below k l)));
+              mask = refl;
+              as-long = refl;
+            };
+      }
 
--- what loading and multiplying leave
-pub summed-written : (n q at : ℕ) (old mid new : List ℕ) (f : Element) → length old ≡ 8 * n → at + n ≤ 6 * n
-    → mid ≡ written (6 * n) (tabulate n f) old
-    → new ≡ written (7 * n) (tabulate n (λ k. (conv n (part mid (6 * n)) (part mid at) k + part mid (7 * n) k) % q)) mid
-    → Summed n q (λ k. part old (7 * n) k + conv n f (part old at) k) old new
-summed-written n q at old mid new f room h loaded added =
-    let long : length mid ≡ length old = ap length loaded ∙ length-written-tabulate (6 * n) n f old (omega arith) in
-    let before : (i : ℕ) → i < 6 * n → getD mid i 0 ≡ getD old i 0 = λ i l.
-    ap (λ (w : List ℕ). getD w i 0) loaded ∙ getD-written-before (6 * n) (tabulate n f) old (omega arith) l in
-    let own : (k : ℕ) → k < n → part mid (6 * n) k ≡ f k = λ k l.
-    ap (λ (w : List ℕ). part w (6 * n) k) loaded ∙ part-written (6 * n) n f old (omega arith) l in
-    let after : (k : ℕ) → k < n → part mid (7 * n) k ≡ part old (7 * n) k = λ k l.
-    ap (λ (w : List ℕ). part w (7 * n) k) loaded ∙ getD-written-after (6 * n) (tabulate n f) old (omega arith) (omega (arith, length-tabulate n f)) in
-    record {
-      sum = λ k l.
-          ap (λ (w : List ℕ). part w (7 * n) k) added
-          ∙ part-written (7 * n) n _ mid (omega arith) l
-          ∙ ap₂ (λ (x y : ℕ). (x + y) % q) (conv-cong n own (λ i s. before (at + i) (omega arith)) k) (after k l)
-          ∙ ap (λ (x : ℕ). x % q) (add-comm (conv n f (part old at) k) (part old (7 * n) k));
-      kept = λ i l. ap (λ (w : List ℕ). getD w i 0) added ∙ getD-written-before (7 * n) _ mid (omega arith) (omega arith) ∙ before i l;
-      as-long = ap length added ∙ length-written-tabulate (7 * n) n _ mid (omega arith) ∙ long;
-    }
+  pub gains-by : {f : Polynomial → Element} (g : Polynomial → Element) {new : List ℕ} → SumGains p f old new
+      → ((k : ℕ) → k < p .n → f (maskIn p old) k ≡ g (maskIn p old) k) → SumGains p g old new
+  gains-by g s h = record { is = sum-cong (s .is) (λ k l. cong-of-eq (ap (λ (x : ℕ). sumIn p old k + x) (h k l))) }
 
--- the words of a lent part
--- what clearing leaves
-pub summed-zeros : (n q : ℕ) (old new : List ℕ) → length old ≡ 8 * n → new ≡ written (7 * n) (replicate n 0) old → Summed n q (λ k. 0) old new
-summed-zeros n q old new room e =
-    let zeros : length (replicate {A = ℕ} n 0) ≡ n = length-replicate n 0 in
-    record {
-      sum = λ k l.
-          ap (λ (w : List ℕ). part w (7 * n) k) e
-          ∙ getD-written (7 * n) (replicate n 0) old (omega arith) (omega arith)
-          ∙ getD-replicate n k 0 0 l
-          ∙ sym (zero-mod q);
-      kept = λ i l. ap (λ (w : List ℕ). getD w i 0) e ∙ getD-written-before (7 * n) (replicate n 0) old (omega arith) (omega arith);
-      as-long = ap length e ∙ length-written (7 * n) (replicate n 0) old (omega arith);
-    }
+  -- part 6 is filled, and then goes into what is added
+  pub gains-spare : {a : Element} {f : Polynomial → Element} (g : Polynomial → Element) {mid new : List ℕ} → Wrote (6 * p .n) (p .n) a old mid
+      → SumGains p f mid new → ((k : ℕ) → k < p .n → f (maskIn p old) k ≡ g (maskIn p old) k) → SumGains p g old new
+  gains-spare {f = f} g {mid} w s h =
+      let here : SumGains p f old _ =
+      record {
+        is =
+            record {
+              sum = λ k l.
+                  s .is .sum k l
+                  ∙ ap (λ (x : ℕ). (x + f (maskIn p mid) k) % p .q) (w .after (7 * p .n + k) (omega arith))
+                  ∙ ap (λ (m : List ℕ). (sumIn p old k + f (λ j i. getD m (j * p .n + i) 0) k) % p .q) (spare-mask p w);
+              mask = s .is .mask ∙ spare-mask p w;
+              as-long = s .is .as-long ∙ w .as-long;
+            };
+      } in
+      gains-by g here h
 
--- one pair: nothing is added, or the product of its elements
-module _ (n q dx dr : ℕ) (key : Polynomial) (m i j : ℕ) (old : List ℕ) where
-  abbrev same : ℕ
-  same = sameMonomial (monomialAt dx i) (monomialAt dr j) (monomialAt (dx + dr) m)
+-- ---- one term after the other
+module _ {p : Parameters} (f : ℕ → Polynomial → Element) {old : List ℕ} where
+  pub terms-none : InRing (p .q) (p .n) (sumIn p old) → SumGains p (firstTerms 0 f) old old
+  unfolding sum
+  terms-none below = gains-none _ below (λ k l. refl)
 
-  abbrev withPair : Element
-  withPair k = part old (7 * n) k + pairTerm n dx dr key (maskIn n old) m k i j
+  pub terms-more : {mid new : List ℕ} (j : ℕ) → SumGains p (firstTerms j f) old mid → SumGains p (f j) mid new → SumGains p (firstTerms (j + 1) f) old new
+  unfolding sum
+  terms-more j s t = record { is = sum-then _ (s .is) t (λ k l. rw (add-one j) (omega arith)) }
 
-  pub summed-no-pair : InRing q n (part old (7 * n)) → same ≡ 0 → Summed n q withPair old old
-  summed-no-pair r e = summed-none r (λ k l. rw (e, mul-zero) (add-zero (part old (7 * n) k)))
-
-  pub summed-pair : {new : List ℕ} → (same ≡ 0 → ⊥) → Summed n q (λ k. part old (7 * n) k + conv n (key i) (maskIn n old j) k) old new → Summed n q withPair old new
-  summed-pair {new} h s =
-      elim (sameMonomial-cases (monomialAt dx i) (monomialAt dr j) (monomialAt (dx + dr) m)) [
-        | inl z ↦ absurd (h z)
-        | inr z ↦ summed-same s (λ k l. rw (z, mul-one))
-      ]
-
--- the terms depend on the mask's parts alone
-pub pairTerm-kept : {n q : ℕ} {old new : List ℕ} {f : Element} (dx dr : ℕ) (key : Polynomial) (m k i j : ℕ) → Summed n q f old new → j < 6
-    → pairTerm n dx dr key (maskIn n new) m k i j ≡ pairTerm n dx dr key (maskIn n old) m k i j
-pairTerm-kept {n} dx dr key m k i j s l =
-    ap (λ (x : ℕ). x * sameMonomial (monomialAt dx i) (monomialAt dr j) (monomialAt (dx + dr) m)) (conv-cong n (λ a b. refl) (mask-kept s l) k)
-
-pub terms-kept : {n q : ℕ} {old new : List ℕ} {f : Element} (dx dr : ℕ) (key : Polynomial) (m k i : ℕ) → Summed n q f old new → dr ≤ 2
-    → sum (monomialCount dr) (pairTerm n dx dr key (maskIn n new) m k i) ≡ sum (monomialCount dr) (pairTerm n dx dr key (maskIn n old) m k i)
-terms-kept dx dr key m k i s d = sum-cong (monomialCount dr) (λ j l. pairTerm-kept dx dr key m k i j s (omega (arith, count-six dr d)))
-
--- all pairs, from a sum that was 0
-pub summed-product : {n q : ℕ} {old mid new : List ℕ} (dx dr : ℕ) (key : Polynomial) (m : ℕ) → dr ≤ 2 → Summed n q (λ k. 0) old mid
-    → Summed n q (λ k. sum (monomialCount dx) (λ i. sum (monomialCount dr) (pairTerm n dx dr key (maskIn n mid) m k i))) mid new
-    → Summed n q (productOf n dx dr key (maskIn n old) m) old new
+pub terms-product : {p : Parameters} (key : Polynomial) (m : ℕ) {old mid new : List ℕ} → SumIs p (λ mask k. 0) old mid
+    → SumGains p (firstTerms (monomialCount (p .dx)) (elementTerms p key m)) mid new → SumIs p (productTerm p key m) old new
 unfolding productOf
-summed-product {n} {q} dx dr key m d s t =
-    record {
-      sum = λ k l. t .sum k l ∙ ap (λ (x : ℕ). x % q) (sum-cong (monomialCount dx) (λ i b. terms-kept dx dr key m k i s d));
-      kept = λ i l. t .kept i l ∙ s .kept i l;
-      as-long = t .as-long ∙ s .as-long;
-    }
+terms-product key m s t = sum-then _ s t (λ k l. omega arith)
 
-pub summed-start : {n q : ℕ} {old mid : List ℕ} → Summed n q (λ k. 0) old mid → Summed n q (λ k. 0) mid mid
-summed-start s = record { sum = s .sum; kept = λ i l. refl; as-long = refl }
+-- ---- what is asked of the key and the mask
+module _ {p : Parameters} {public work : List ℕ} (g : KeyAndMask p public work) where
+  pub inputs-set : Accepted p
+  inputs-set = accepted-set p (g .set)
 
-pub inputs-same : {n qlen q dx dr m : ℕ} {public old new : List ℕ} → Inputs n qlen q dx dr m public old → length new ≡ length old
-    → ((i : ℕ) → i < 6 * n → getD new i 0 ≡ getD old i 0) → Inputs n qlen q dx dr m public new
-inputs-same {n} {dr = dr} g long kept =
-    record {
-      sizes = record { places = g .sizes .places; most = g .sizes .most; octets-least = g .sizes .octets-least; octets-most = g .sizes .octets-most; room = long ∙ g .sizes .room };
-      modulus-least = g .modulus-least;
-      modulus-most = g .modulus-most;
-      key-degree = g .key-degree;
-      mask-degree = g .mask-degree;
-      place = g .place;
-      room = g .room;
-      key = g .key;
-      mask = λ j l k b.
-          let few : j * n + n ≤ 6 * n = part-room n j 6 (omega (arith, count-six dr (g .mask-degree))) in
-          rw (kept (j * n + k) (omega arith)) (g .mask j l k b);
-    }
+  pub inputs-room : length work ≡ 8 * p .n
+  inputs-room = work-words p work (g .work-exact)
 
-pub inputs-kept : {n qlen q dx dr m : ℕ} {public old new : List ℕ} {f : Element} → Inputs n qlen q dx dr m public old → Summed n q f old new
-    → Inputs n qlen q dx dr m public new
-inputs-kept g s = inputs-same g (s .as-long) (s .kept)
+  pub mask-few : {j : ℕ} → j < monomialCount (p .dr) → j < 6
+  mask-few l = omega (arith, count-six (p .dr) (mask-degree-most p inputs-set))
 
--- ---- what is asked of a key element and of a mask element
-module _ {n qlen q dx dr m : ℕ} {public old : List ℕ} (g : Inputs n qlen q dx dr m public old) where
-  pub key-room : {i : ℕ} → i < monomialCount dx → i * n * qlen + n * qlen ≤ length public
+  pub key-few : {i : ℕ} → i < monomialCount (p .dx) → i < 6
+  key-few l = omega (arith, count-six (p .dx) (key-degree-most p inputs-set))
+
+  pub key-below : (i : ℕ) → i < monomialCount (p .dx) → InRing (p .q) (p .n) (polynomialFrom p public i)
+  unfolding elementsFit decodedElements
+  key-below i l k b = coefficientsFit-at (p .q) (qlen (p .q)) (monomialCount (p .dx) * p .n) public (g .fits) (digits-lt l b)
+
+  pub key-room : {i : ℕ} → i < monomialCount (p .dx) → i * p .n * qlen (p .q) + p .n * qlen (p .q) ≤ length public
+  unfolding publicLength elementsLength
   key-room {i} l =
-      let one : suc i * n * qlen ≤ monomialCount dx * n * qlen = mul-le-mul-right qlen (mul-le-mul-right n l) in
-      omega (arith, g .room)
+      let one : suc i * p .n * qlen (p .q) ≤ monomialCount (p .dx) * p .n * qlen (p .q) = mul-le-mul-right (qlen (p .q)) (mul-le-mul-right (p .n) l) in
+      omega (arith, g .public-exact)
 
-  pub key-loaded : {i : ℕ} {mid : List ℕ} → i < monomialCount dx → mid ≡ written (6 * n) (tabulate n (flat n qlen public i)) old → InRing q n (part mid (6 * n))
-  key-loaded {i} {mid} l e k b =
-      let same : part mid (6 * n) k ≡ flat n qlen public i k =
-      ap (λ (w : List ℕ). part w (6 * n) k) e ∙ part-written (6 * n) n (flat n qlen public i) old (omega (arith, g .sizes .room)) b in
-      rw same (g .key i l k b)
+  pub inputs-kept : {new : List ℕ} → take (6 * p .n) new ≡ take (6 * p .n) work → length new ≡ length work → KeyAndMask p public new
+  inputs-kept same long =
+      record {
+        set = g .set;
+        public-exact = g .public-exact;
+        fits = g .fits;
+        work-exact = long ∙ g .work-exact;
+        mask = λ j l k b. rw same (g .mask j l k b);
+      }
 
-  pub mask-loaded : (i : ℕ) {j : ℕ} {mid : List ℕ} → j < monomialCount dr → j * n + n ≤ 6 * n → mid ≡ written (6 * n) (tabulate n (flat n qlen public i)) old → InRing q n (part mid (j * n))
-  mask-loaded i {j} {mid} l room e k b =
-      let same : part mid (j * n) k ≡ part old (j * n) k =
-      ap (λ (w : List ℕ). part w (j * n) k) e ∙ getD-written-before (6 * n) (tabulate n (flat n qlen public i)) old (omega (arith, g .sizes .room)) (omega arith) in
-      rw same (g .mask j l k b)
+pub adding-after : {p : Parameters} {m : ℕ} {public work new : List ℕ} {f : Polynomial → Element} → KeyAndMask p public work → m < monomialCount (degree p)
+    → SumIs p f work new → Adding p m public new
+adding-after g l s =
+    record { inputs = inputs-kept g (s .mask) (s .as-long); place = l; below = sum-inRing (modulus-positive _ (inputs-set g)) s }

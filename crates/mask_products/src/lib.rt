@@ -2,111 +2,86 @@
 //
 // The key's octets are lent. The work words are eight parts of n words: the mask's elements in the first six, a key element in part 6
 // while it is multiplied, and the sum in part 7. Each pair of monomials whose product is the m-th is multiplied and added. Nothing is
-// refused: the caller has judged the octets and drawn the mask. The contracts cite the definitions' productOf.
+// refused: the caller has judged the octets and drawn the mask. The contracts cite the definitions' productOf, through specs/Products.antt.
 ghost use mathlib.Core.Path.{_≡_};
-ghost use Prim.Native.Nat.{_+_, _*_, _≤_, _<_};
+ghost use Prim.Native.Nat.{_*_, _<_};
 ghost use lib.ListN.{length};
-ghost use Rattle.definitions.specs.Sequences.{sum};
-ghost use Rattle.definitions.specs.Parameters.{monomialCount};
-ghost use Rattle.definitions.specs.Ring.{InRing};
-ghost use Rattle.definitions.specs.Monomials.{monomialAt, sameMonomial, productOf};
-ghost use Rattle.ring.specs.Work.{part};
-ghost use Rattle.decoding.specs.Elements.{flat};
-ghost use Rattle.mask_products.specs.Products.{maskIn, pairTerm, Inputs, Summed};
+ghost use Rattle.definitions.specs.Sequences.{tabulate};
+ghost use Rattle.definitions.specs.Parameters.{degree, monomialCount, workLength};
+ghost use Rattle.definitions.specs.Ring.{InRing, conv};
+ghost use Rattle.definitions.specs.Calls.{polynomialFrom};
+ghost use Rattle.definitions.specs.Contracts.{before, after};
+ghost use Rattle.definitions.specs.Demand3.{AcceptedSet};
+ghost use Rattle.parameters.specs.Answers.{setFrom};
+ghost use Rattle.ring.specs.Work.{part, written};
+ghost use Rattle.mask_products.specs.Products.{maskIn, pairTerm, elementTerms, productTerm, KeyAndMask, Adding, SumIs, SumGains};
+use parameters::Parameters;
 
-// 1 where the i-th monomial of degree dx times the j-th of dr is the m-th of dx + dr, otherwise 0.
-pub fn same_monomial(dx: usize, i: usize, dr: usize, j: usize, m: usize) -> u32
-    requires { ⌜ (dx ≤ 2) × (dr ≤ 2) × (i < monomialCount dx) × (j < monomialCount dr) × (m < monomialCount (dx + dr)) ⌝ }
-    ensures { λ r. ⌜ r ≡ sameMonomial (monomialAt dx i) (monomialAt dr j) (monomialAt (dx + dr) m) ⌝ }
+// The sum becomes 0.
+pub fn clear_sum(p: Parameters, work: &mut [u32])
+    requires { ⌜ AcceptedSet (setFrom p) × (length (now work) ≡ workLength (setFrom p)) ⌝ }
+    ensures { λ _. ⌜ SumIs (setFrom p) (λ mask k. 0) (before work) (after work) ⌝ }
 {
-    let of_key = monomials::monomial(dx, i);
-    let of_mask = monomials::monomial(dr, j);
-    let product = monomials::monomial(dx + dr, m);
-    if of_key.x + of_mask.x != product.x {
-        return 0;
-    }
-    if of_key.y + of_mask.y != product.y {
-        return 0;
-    }
-    1
-}
-
-// One pair of monomials.
-fn add_pair(
-    public: &[u8],
-    dx: usize,
-    i: usize,
-    dr: usize,
-    j: usize,
-    m: usize,
-    n: usize,
-    qlen: usize,
-    q: u32,
-    work: &mut [u32],
-)
-    requires { ⌜ Inputs n qlen q dx dr m (now public) (now work) × (i < monomialCount dx) × (j < monomialCount dr) × InRing q n (part (now work) (7 * n)) ⌝ }
-    ensures { λ _. ⌜ Summed n q (λ k. part (now (work .entry)) (7 * n) k + pairTerm n dx dr (flat n qlen (now (public .entry))) (maskIn n (now (work .entry))) m k i j) (now (work .entry)) (now (work .exit)) ⌝ }
-{
-    if same_monomial(dx, i, dr, j, m) == 0 {
-        return;
-    }
-    let spare = 6 * n;
-    decoding::element(public, i, n, qlen, work, spare);
-    products::multiply_add(work, spare, j * n, 7 * n, n, q, q);
-}
-
-// One monomial of the key, with each of the mask.
-fn add_element(
-    public: &[u8],
-    dx: usize,
-    i: usize,
-    dr: usize,
-    m: usize,
-    n: usize,
-    qlen: usize,
-    q: u32,
-    work: &mut [u32],
-)
-    requires { ⌜ Inputs n qlen q dx dr m (now public) (now work) × (i < monomialCount dx) × InRing q n (part (now work) (7 * n)) ⌝ }
-    ensures { λ _. ⌜ Summed n q (λ k. part (now (work .entry)) (7 * n) k + sum (monomialCount dr) (pairTerm n dx dr (flat n qlen (now (public .entry))) (maskIn n (now (work .entry))) m k i)) (now (work .entry)) (now (work .exit)) ⌝ }
-{
-    let count = lengths::monomial_count(dr as u32);
-    let mut j = 0;
-    while j < count {
-        add_pair(public, dx, i, dr, j, m, n, qlen, q, work);
-        j += 1;
-    }
-}
-
-// Part 7 becomes 0.
-pub fn clear_sum(work: &mut [u32], n: usize, q: u32)
-    requires { ⌜ (n ≤ 4096) × (length (now work) ≡ 8 * n) × (0 < q) ⌝ }
-    ensures { λ _. ⌜ Summed n q (λ _. 0) (now (work .entry)) (now (work .exit)) ⌝ }
-{
+    let n = p.n as usize;
     let from = 7 * n;
     let end = from + n;
     ring::clear(&mut work[from..end]);
 }
 
-// The m-th element of the product X × r, into part 7.
-pub fn product_at(
-    public: &[u8],
-    dx: usize,
-    dr: usize,
-    m: usize,
-    n: usize,
-    qlen: usize,
-    q: u32,
-    work: &mut [u32],
-)
-    requires { ⌜ Inputs n qlen q dx dr m (now public) (now work) ⌝ }
-    ensures { λ _. ⌜ Summed n q (productOf n dx dr (flat n qlen (now (public .entry))) (maskIn n (now (work .entry))) m) (now (work .entry)) (now (work .exit)) ⌝ }
+// The key's i-th element, into part 6.
+pub fn load_key(p: Parameters, public: &[u8], i: usize, work: &mut [u32])
+    requires { ⌜ KeyAndMask (setFrom p) (now public) (now work) × (i < monomialCount (p .dx)) ⌝ }
+    ensures { λ _. ⌜ after work ≡ written (6 * p .n) (tabulate (p .n) (polynomialFrom (setFrom p) (before public) i)) (before work) ⌝ }
 {
-    clear_sum(work, n, q);
-    let count = lengths::monomial_count(dx as u32);
+    let n = p.n as usize;
+    decoding::element(public, i, n, lengths::octets_of_coefficient(p.q), work, 6 * n);
+}
+
+// Part 6 times the mask's j-th element, added to the sum.
+pub fn multiply_mask(p: Parameters, j: usize, work: &mut [u32])
+    requires { ⌜ AcceptedSet (setFrom p) × (length (now work) ≡ workLength (setFrom p)) × (j < 6) ⌝ }
+    requires { ⌜ InRing (p .q) (p .n) (part (now work) (6 * p .n)) × InRing (p .q) (p .n) (maskIn (setFrom p) (now work) j) ⌝ }
+    ensures { λ _. ⌜ SumGains (setFrom p) (λ mask. conv (p .n) (part (before work) (6 * p .n)) (mask j)) (before work) (after work) ⌝ }
+{
+    let n = p.n as usize;
+    products::multiply_add(work, 6 * n, j * n, 7 * n, n, p.q, p.q);
+}
+
+// One pair of monomials.
+fn add_pair(p: Parameters, public: &[u8], i: usize, j: usize, m: usize, work: &mut [u32])
+    requires { ⌜ Adding (setFrom p) m (now public) (now work) × (i < monomialCount (p .dx)) × (j < monomialCount (p .dr)) ⌝ }
+    ensures { λ _. ⌜ SumGains (setFrom p) (pairTerm (setFrom p) (polynomialFrom (setFrom p) (before public)) m i j) (before work) (after work) ⌝ }
+{
+    if !monomials::same_monomial(p.dx, i, p.dr, j, m) {
+        return;
+    }
+    load_key(p, public, i, work);
+    multiply_mask(p, j, work);
+}
+
+// One monomial of the key, with each of the mask.
+fn add_element(p: Parameters, public: &[u8], i: usize, m: usize, work: &mut [u32])
+    requires { ⌜ Adding (setFrom p) m (now public) (now work) × (i < monomialCount (p .dx)) ⌝ }
+    ensures { λ _. ⌜ SumGains (setFrom p) (elementTerms (setFrom p) (polynomialFrom (setFrom p) (before public)) m i) (before work) (after work) ⌝ }
+{
+    let count = lengths::monomial_count(p.dr);
+    let mut j = 0;
+    while j < count {
+        add_pair(p, public, i, j, m, work);
+        j += 1;
+    }
+}
+
+// The m-th element of the product X × r becomes the sum.
+pub fn product_at(p: Parameters, public: &[u8], m: usize, work: &mut [u32])
+    requires { ⌜ KeyAndMask (setFrom p) (now public) (now work) × (m < monomialCount (degree (setFrom p))) ⌝ }
+    ensures { λ _. ⌜ SumIs (setFrom p) (productTerm (setFrom p) (polynomialFrom (setFrom p) (before public)) m) (before work) (after work) ⌝ }
+{
+    clear_sum(p, work);
+    let count = lengths::monomial_count(p.dx);
     let mut i = 0;
     while i < count {
-        add_element(public, dx, i, dr, m, n, qlen, q, work);
+        add_element(p, public, i, m, work);
         i += 1;
     }
 }

@@ -1,11 +1,11 @@
 -- The table's rule, proved once by a test that is computed at every place of every degree's list.
 -- Assumes nothing.
-use Prim.Native.Nat.{ℕ, _+_, _-_, _<_}
+use Prim.Native.Nat.{ℕ, _+_, _-_, _≤_, _<_}
 use native.Mathlib.Omega.{arith}
-use mathlib.Core.Path.{_≡_, refl, ap₂}
-use mathlib.Core.Bool.{Bool, true, _&&_}
+use mathlib.Core.Path.{_≡_, refl, sym, _∙_, ap, ap₂}
+use mathlib.Core.Bool.{Bool, true, false, cond, _&&_, not}
 use mathlib.Core.List.{List, [], _∷_}
-use borrow.Author.Tests.{eqb-true}
+use borrow.Author.Tests.{eqb-true, not-true, not-false}
 use lib.Dec.{eqb}
 use lib.ListN.{getD}
 use Rattle.definitions.specs.Sequences.{every, tabulate}
@@ -13,6 +13,7 @@ use Rattle.definitions.specs.Parameters.{monomialCount}
 use Rattle.definitions.specs.Monomials.{Monomial, ofDegree, monomials, monomialAt}
 use Rattle.definitions.proofs.Sums.{every-at}
 use Rattle.definitions.proofs.Tests.{both-true}
+use Rattle.definitions.proofs.Monomials.{monomials-degree}
 use Rattle.monomials.specs.declared.Exponents.{Exponents}
 use Rattle.monomials.specs.Pairs.{monomialFrom}
 
@@ -59,3 +60,17 @@ unfolding pairRight
 pair-at at d i e l s =
     let start : at ≡ 15 - monomialCount d = omega arith in
     rw start (same-exponents _ _ (every-at (monomialCount d) (pairRight d) (every-at 5 (λ d. every (monomialCount d) (pairRight d)) pairs-right l) s))
+
+-- what a pair of exponents tells of the monomial that it names
+pub exponents-small : (d i : ℕ) (e : Exponents) → monomialFrom e ≡ monomialAt d i → e .x + e .y ≤ d
+exponents-small d i e same =
+    let x : e .x ≡ monomialAt d i .x = ap (λ (m : Monomial). m .x) same in
+    let y : e .y ≡ monomialAt d i .y = ap (λ (m : Monomial). m .y) same in
+    omega (arith, monomials-degree d i)
+
+-- a test that was told as a number
+pub flag-none : (t : Bool) {x : ℕ} → cond t 1 0 ≡ x → not t ≡ true → x ≡ 0
+flag-none t e h = sym e ∙ ap (λ (u : Bool). cond u 1 0) (not-true t h)
+
+pub flag-one : (t : Bool) {x : ℕ} → cond t 1 0 ≡ x → not t ≡ false → x ≡ 1
+flag-one t e h = sym e ∙ ap (λ (u : Bool). cond u 1 0) (not-false t h)

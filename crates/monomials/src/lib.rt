@@ -5,7 +5,8 @@
 ghost use mathlib.Core.Path.{_≡_};
 ghost use Prim.Native.Nat.{_+_, _≤_, _<_};
 ghost use Rattle.definitions.specs.Parameters.{monomialCount};
-ghost use Rattle.definitions.specs.Monomials.{monomialAt};
+ghost use mathlib.Core.Bool.{cond};
+ghost use Rattle.definitions.specs.Monomials.{monomialAt, sameMonomial};
 ghost use Rattle.monomials.specs.Pairs.{monomialFrom};
 
 // A monomial, by its exponents of x and of y.
@@ -37,17 +38,28 @@ const PAIRS: [Exponents; 15] = [
 const START: [u8; 5] = [14, 12, 9, 5, 0];
 
 // The list of degree d is the table's tail from here on.
-fn start(d: usize) -> usize
+fn start(d: u32) -> usize
     requires { ⌜ d ≤ 4 ⌝ }
     ensures { λ r. ⌜ r + monomialCount d ≡ 15 ⌝ }
 {
-    START[d] as usize
+    START[d as usize] as usize
 }
 
 // The monomial at place i of degree d's list.
-pub fn monomial(d: usize, i: usize) -> Exponents
+pub fn monomial(d: u32, i: usize) -> Exponents
     requires { ⌜ (d ≤ 4) × (i < monomialCount d) ⌝ }
     ensures { λ r. ⌜ monomialFrom r ≡ monomialAt d i ⌝ }
 {
     PAIRS[start(d) + i]
+}
+
+// Whether the i-th monomial of degree d times the j-th of degree e is the m-th of degree d + e.
+pub fn same_monomial(d: u32, i: usize, e: u32, j: usize, m: usize) -> bool
+    requires { ⌜ (d ≤ 2) × (e ≤ 2) × (i < monomialCount d) × (j < monomialCount e) × (m < monomialCount (d + e)) ⌝ }
+    ensures { λ r. ⌜ cond r 1 0 ≡ sameMonomial (monomialAt d i) (monomialAt e j) (monomialAt (d + e) m) ⌝ }
+{
+    let first = monomial(d, i);
+    let second = monomial(e, j);
+    let product = monomial(d + e, m);
+    (first.x + second.x == product.x) & (first.y + second.y == product.y)
 }

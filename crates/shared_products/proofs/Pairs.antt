@@ -30,7 +30,8 @@ unfolding sameMonomial
 sameMonomial-comm a b c = rw (add-comm (a .x) (b .x), add-comm (a .y) (b .y))
 
 pub conv-sums : (n : ℕ) (a b c e : Element) (k : ℕ)
-    → conv n (add a b) (add c e) k ≡ conv n a c k + conv n b e k + (conv n a e k + conv n b c k)
+    → conv n (λ i. a i + b i) (λ i. c i + e i) k ≡ conv n a c k + conv n b e k + (conv n a e k + conv n b c k)
+unfolding add
 conv-sums n a b c e k = omega (arith, conv-add-left n a b (add c e) k, conv-add n a c e k, conv-add n b c e k)
 
 pub cong-less : (q x y : ℕ) → 0 < q → Cong q (x + y + (q - y % q)) x
@@ -41,7 +42,7 @@ cong-less q x y pos =
 module _ (n q : ℕ) (pos : 0 < q) (a b c e : Element) where
   -- what is computed
   abbrev pub sumsLess : ℕ → ℕ → ℕ
-  sumsLess x k = x + conv n (add a b) (add c e) k + (q - conv n a c k % q) + (q - conv n b e k % q)
+  sumsLess x k = x + conv n (λ i. a i + b i) (λ i. c i + e i) k + (q - conv n a c k % q) + (q - conv n b e k % q)
 
   pub cong-pair : (x k : ℕ) → Cong q (sumsLess x k) (x + (conv n a e k + conv n b c k))
   cong-pair x k =
@@ -51,8 +52,8 @@ module _ (n q : ℕ) (pos : 0 < q) (a b c e : Element) where
       let sorted : sumsLess x k ≡ both + z + y + (q - y % q) + (q - z % q) = rw (conv-sums n a b c e k) (omega arith) in
       cong-trans (cong-of-eq sorted) (cong-trans (cong-add (cong-less q (both + z) y pos) cong-refl) (cong-less q both z pos))
 
-pub cong-sums : (n q : ℕ) (a b c e : Element) (x k : ℕ) → Cong q (x + conv n (λ i. (a i + b i) % q) (λ i. (c i + e i) % q) k) (x + conv n (add a b) (add c e) k)
-unfolding add
+pub cong-sums : (n q : ℕ) (a b c e : Element) (x k : ℕ)
+    → Cong q (x + conv n (λ i. (a i + b i) % q) (λ i. (c i + e i) % q) k) (x + conv n (λ i. a i + b i) (λ i. c i + e i) k)
 cong-sums n q a b c e x k = cong-add cong-refl (conv-cong-modulo n (λ i l. cong-mod q _) (λ i l. cong-mod q _) k)
 
 pub sum-restored : (q : ℕ) {a b : ℕ} → a < q → b < q → ((a + b) % q + (q - b)) % q ≡ a

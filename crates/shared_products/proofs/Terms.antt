@@ -1,186 +1,163 @@
--- What the pairs of one place add, and that all of them are the product.
+-- What the pairs of one place add, that all of them are the product, and what preparing the list leaves.
 --
---   inputs-kept      what was asked of the work words at entry still holds
---   prepared-inputs  what is asked follows from what was prepared
---   inputs-pair      a pair of places has what its product asks
---   summed-square    what the pair of a place with itself adds;  summed-both: a pair of two places;  summed-rows: all of them
+--   element-prepared what the copies of one element leave;  prepared-more: one element more stands in the list;  prepared-shared: what is asked follows from what was prepared
+--   shared-kept, shared-after   what was asked of the work words at entry still holds after a step
+--   gains-no-pair, gains-both   what a pair of two places adds;  gains-square: a place with itself
+--   gains-row        a row of pairs;  rows-product: all rows, from 0 on, are the product
 -- Assumes nothing.
 use Prim.Native.Nat.{ℕ, _+_, _-_, _*_, _%_, _≤_, _<_}
-use native.Mathlib.Nat.{mod-lt, mul-one, mul-zero, add-zero, zero-add, le-trans}
+use native.Mathlib.Nat.{mod-lt, mul-one, mul-zero}
 use native.Mathlib.Omega.{arith}
+use native.Mathlib.Decide.{decLt}
 use mathlib.Core.Path.{_≡_, refl, sym, _∙_, ap, ap₂}
-use mathlib.Core.Logic.{inl, inr}
 use mathlib.Core.List.{List}
-use lib.ListN.{length, getD}
+use lib.ListN.{length, getD, take}
 use Rattle.definitions.specs.Sequences.{sum, tabulate}
-use Rattle.definitions.specs.Parameters.{monomialCount}
-use Rattle.definitions.specs.Ring.{Element, InRing, add, conv}
-use Rattle.definitions.specs.Monomials.{Monomial, Polynomial, monomialAt, sameMonomial, productOf}
-use Rattle.definitions.proofs.Sums.{sum-cong}
-use Rattle.definitions.proofs.Congruence.{cong-refl, cong-mod, cong-add, cong-mul}
+use Rattle.definitions.specs.Parameters.{Parameters, degree, monomialCount}
+use Rattle.definitions.specs.Ring.{Element, InRing, conv}
+use Rattle.definitions.specs.Monomials.{Polynomial, monomialAt, sameMonomial}
+use Rattle.definitions.proofs.Sums.{tabulate-cong}
+use Rattle.definitions.proofs.Parameters.{Accepted, accepted-set, modulus-positive, key-degree-most}
+use Rattle.definitions.proofs.Congruence.{cong-refl, cong-trans, cong-of-eq, cong-mod, cong-add}
 use Rattle.definitions.proofs.Ring.{conv-cong}
-use Rattle.ring.specs.Work.{part, written, productAdded}
-use Rattle.decoding.specs.Elements.{flat}
-use Rattle.ring.proofs.Lent.{part-room}
-use Rattle.mask_products.specs.Products.{maskIn, pairTerm, Inputs, Summed}
-use Rattle.mask_products.proofs.Sums as mask
-use Rattle.mask_products.proofs.Sums.{count-six, sameMonomial-cases, sum-next, summed-none, summed-same, summed-then, mask-kept, pairTerm-kept, summed-product}
-use Rattle.shared_products.specs.Sharing.{Prepared, SharedInputs, Pair, bothTerms, rowOfPairs}
-use Rattle.shared_products.proofs.Pairs.{sum-square, sameMonomial-comm, sumsLess, cong-pair}
-use Rattle.shared_products.proofs.Turns.{summed-cong}
+use Rattle.ring.specs.Work.{part, written}
+use Rattle.ring.proofs.Work.{Wrote, wrote}
+use Rattle.mask_products.specs.Products.{maskIn, sumIn, pairTerm, firstTerms, elementTerms, productTerm, KeyAndMask, SumIs, SumGains}
+use Rattle.mask_products.proofs.Sums.{work-words, count-six, part-room, sum-cong, sum-then, sum-inRing, gains-none, gains-by, terms-product, key-below}
+use Rattle.shared_products.specs.Sharing.{keyIn, square, pairSum, elementPrepared, Prepared, PreparedKey, Shared, SharedAdding, bothTerms, rowOfPairs}
+use Rattle.shared_products.proofs.Pairs.{sum-square, sameMonomial-comm, cong-pair}
 
--- the product of a key element and the mask's at a place
-pub element-product : (n q i : ℕ) (f : Element) {old zeroed loaded new : List ℕ} → length old ≡ 8 * n → i < 6 → Summed n q (λ k. 0) old zeroed
-    → loaded ≡ written (6 * n) (tabulate n f) zeroed → new ≡ productAdded n q (6 * n) (i * n) (7 * n) loaded → Summed n q (conv n f (maskIn n old i)) old new
-element-product n q i f {zeroed = zeroed} room few s e p =
-    summed-then (conv n f (maskIn n zeroed i)) s
-    (mask.summed-written n q (i * n) zeroed _ _ f (s .as-long ∙ room) (part-room n i 6 few) e p)
-    (λ k l. zero-add _ ∙ conv-cong n (λ h b. refl) (mask-kept s few) k)
+pub element-prepared : (p : Parameters) (key mask : Polynomial) (i : ℕ) (old : List ℕ) {at : ℕ} {a b : Element} {mid new : List ℕ}
+    → at ≡ (monomialCount (p .dx) + i) * p .n
+    → mid ≡ written (i * p .n) (tabulate (p .n) a) old → ((k : ℕ) → k < p .n → a k ≡ key i k)
+    → new ≡ written at (tabulate (p .n) b) mid → ((k : ℕ) → k < p .n → b k ≡ square p key mask i k) → new ≡ elementPrepared p key mask i old
+element-prepared p key mask i old {mid = mid} e first s second t =
+    second
+    ∙ ap₂ (λ (x : ℕ) (l : List ℕ). written x l mid) e (tabulate-cong (p .n) t)
+    ∙ ap (written ((monomialCount (p .dx) + i) * p .n) (tabulate (p .n) (square p key mask i)))
+    (first ∙ ap (λ (l : List ℕ). written (i * p .n) l old) (tabulate-cong (p .n) s))
 
--- the diagonal depends on the mask's parts alone
-pub prepared-kept : {n q d : ℕ} {key : Polynomial} {keys diagonal : List ℕ} (old new : List ℕ) → d ≤ 2 → Prepared n q d key (maskIn n old) keys diagonal
-    → ((i : ℕ) → i < 6 * n → getD new i 0 ≡ getD old i 0) → Prepared n q d key (maskIn n new) keys diagonal
-prepared-kept {n} {q} {d} old new low p kept =
+pub prepared-more : {p : Parameters} {i : ℕ} {key mask : Polynomial} {old new : List ℕ} → i < monomialCount (p .dx)
+    → 2 * (monomialCount (p .dx) * p .n) ≤ length old → Prepared p i key mask old → new ≡ elementPrepared p key mask i old → Prepared p (i + 1) key mask new
+prepared-more {p} {i} {key} {mask} {old} few room h e =
+    let count : ℕ = monomialCount (p .dx) in
+    let inside : i * p .n + p .n ≤ count * p .n = part-room (p .n) i count few in
+    let w : Wrote (i * p .n) (p .n) (key i) old (written (i * p .n) (tabulate (p .n) (key i)) old) = wrote (omega arith) refl in
+    let v = wrote (omega (arith, w .as-long)) e in
     record {
-      keys-room = p .keys-room;
-      diagonal-room = p .diagonal-room;
-      elements = p .elements;
-      squares = λ i l k b.
-          let few : i * n + n ≤ 6 * n = part-room n i 6 (omega (arith, count-six d low)) in
-          p .squares i l k b ∙ ap (λ (x : ℕ). x % q) (conv-cong n (λ h s. refl) (λ h s. sym (kept (i * n + h) (omega arith))) k);
+      elements = λ j l k b.
+          elim (decLt j i) [
+            | yes s ↦ let low : j * p .n + p .n ≤ i * p .n = part-room (p .n) j i s in
+                v .before (j * p .n + k) (omega arith) ∙ w .before (j * p .n + k) (omega arith) ∙ h .elements j s k b
+            | no s ↦ let last : j ≡ i = omega arith in
+                rw last (v .before (i * p .n + k) (omega arith) ∙ w .inside k b)
+          ];
+      squares = λ j l k b.
+          elim (decLt j i) [
+            | yes s ↦ let low : j * p .n + p .n ≤ i * p .n = part-room (p .n) j i s in
+                v .before ((count + j) * p .n + k) (omega arith) ∙ w .after ((count + j) * p .n + k) (omega arith) ∙ h .squares j s k b
+            | no s ↦ let last : j ≡ i = omega arith in
+                rw last (v .inside k b)
+          ];
     }
 
-pub inputs-kept : {n q d m : ℕ} {f : Element} {old new keys diagonal : List ℕ} → SharedInputs n q d m old keys diagonal → Summed n q f old new
-    → SharedInputs n q d m new keys diagonal
-inputs-kept {d = d} {old = old} {new = new} g s =
-    record {
-      most = g .most;
-      room = s .as-long ∙ g .room;
-      modulus-least = g .modulus-least;
-      modulus-most = g .modulus-most;
-      degree-most = g .degree-most;
-      place = g .place;
-      key = g .key;
-      mask = λ i l k b. rw (mask-kept s {j = i} (omega (arith, count-six d (g .degree-most))) k b) (g .mask i l k b);
-      prepared = prepared-kept old new (g .degree-most) (g .prepared) (s .kept);
-    }
+-- ---- what is asked of the list and the mask
+module _ {p : Parameters} {work list : List ℕ} (g : Shared p work list) where
+  pub shared-set : Accepted p
+  shared-set = accepted-set p (g .set)
 
-module _ {n q d m : ℕ} {work keys diagonal : List ℕ} (g : SharedInputs n q d m work keys diagonal) where
-  pub place-few : {i : ℕ} → i < monomialCount d → i < 6
-  place-few l = omega (arith, count-six d (g .degree-most))
+  pub shared-room : length work ≡ 8 * p .n
+  shared-room = work-words p work (g .work-exact)
 
-  pub diagonal-room : {i : ℕ} → i < monomialCount d → i * n + n ≤ length diagonal
-  diagonal-room {i} l = le-trans (part-room n i (monomialCount d) l) (g .prepared .diagonal-room)
+  pub place-few : {i : ℕ} → i < monomialCount (p .dx) → i < 6
+  place-few l = omega (arith, count-six (p .dx) (key-degree-most p shared-set))
 
-  pub diagonal-inRing : {i : ℕ} → i < monomialCount d → InRing q n (part diagonal (i * n))
-  diagonal-inRing {i} l k b = rw (g .prepared .squares i l k b) (mod-lt _ (g .modulus-least))
+  pub key-inside : {i : ℕ} → i < monomialCount (p .dx) → i * p .n + p .n ≤ length list
+  key-inside {i} l = omega (arith, part-room (p .n) i (monomialCount (p .dx)) l, g .room)
 
-  pub inputs-pair : {i j : ℕ} → i < monomialCount d → j < i → Pair n q i j work keys
-  inputs-pair {i} {j} l s =
-      let before : j < monomialCount d = omega arith in
+  module _ {i at : ℕ} (e : at ≡ (monomialCount (p .dx) + i) * p .n) (l : i < monomialCount (p .dx)) where
+    pub diagonal-inside : at + p .n ≤ length list
+    diagonal-inside = omega (arith, part-room (p .n) i (monomialCount (p .dx)) l, g .room)
+
+    pub diagonal-below : InRing (p .q) (p .n) (part list at)
+    diagonal-below k b = rw (e, g .squares i l k b) (mod-lt _ (modulus-positive p shared-set))
+
+  pub shared-kept : {new : List ℕ} → take (6 * p .n) new ≡ take (6 * p .n) work → length new ≡ length work → Shared p new list
+  shared-kept same long =
       record {
-        most = g .most;
+        set = g .set;
+        one-degree = g .one-degree;
+        work-exact = long ∙ g .work-exact;
         room = g .room;
-        modulus-least = g .modulus-least;
-        modulus-most = g .modulus-most;
-        first = place-few l;
-        second = s;
-        keys-room = le-trans (part-room n i (monomialCount d) l) (g .prepared .keys-room);
-        key-first = g .key i l;
-        key-second = g .key j before;
-        mask-first = g .mask i l;
-        mask-second = g .mask j before;
+        key = g .key;
+        mask = λ i l k b. rw same (g .mask i l k b);
+        squares = λ i l k b.
+            g .squares i l k b ∙ ap (λ (w : List ℕ). square p (keyIn p list) (λ j h. getD w (j * p .n + h) 0) i k) (sym same);
       }
 
--- what is asked here, from what mask_products asks and what prepare left
-pub prepared-inputs : {n qlen q d m : ℕ} {public work keys diagonal : List ℕ} → Inputs n qlen q d d m public work
-    → Prepared n q d (flat n qlen public) (maskIn n work) keys diagonal → SharedInputs n q d m work keys diagonal
-prepared-inputs {n} {q = q} g p =
+  pub shared-after : {m : ℕ} {new : List ℕ} {f : Polynomial → Element} → m < monomialCount (degree p) → SumIs p f work new → SharedAdding p m new list
+  shared-after l s =
+      record { inputs = shared-kept (s .mask) (s .as-long); place = l; below = sum-inRing (modulus-positive p shared-set) s }
+
+pub prepared-shared : {p : Parameters} {public work list : List ℕ} → KeyAndMask p public work → PreparedKey p public work list → Shared p work list
+prepared-shared {p} g r =
     record {
-      most = g .sizes .most;
-      room = g .sizes .room;
-      modulus-least = g .modulus-least;
-      modulus-most = g .modulus-most;
-      degree-most = g .key-degree;
-      place = g .place;
-      key = λ i l k b. rw (p .elements i l k b) (g .key i l k b);
-      mask = g .mask;
-      prepared =
-          record {
-            keys-room = p .keys-room;
-            diagonal-room = p .diagonal-room;
-            elements = λ i l k b. refl;
-            squares = λ i l k b. p .squares i l k b ∙ ap (λ (x : ℕ). x % q) (conv-cong n (λ h s. sym (p .elements i l h s)) (λ h s. refl) k);
-          };
+      set = g .set;
+      one-degree = r .one-degree;
+      work-exact = g .work-exact;
+      room = r .room;
+      key = λ i l k b. rw (r .prepared .elements i l k b) (key-below g i l k b);
+      mask = λ i l. g .mask i (rw (← r .one-degree) l);
+      squares = λ i l k b.
+          r .prepared .squares i l k b
+          ∙ ap (λ (x : ℕ). x % p .q) (conv-cong (p .n) (λ h s. sym (r .prepared .elements i l h s)) (λ h s. refl) k);
     }
 
-pub sameMonomial-one : (a b c : Monomial) → (sameMonomial a b c ≡ 0 → ⊥) → sameMonomial a b c ≡ 1
-sameMonomial-one a b c h = elim (sameMonomial-cases a b c) [ inl z ↦ absurd (h z) | inr z ↦ z ]
+-- ---- pairs
+module _ {p : Parameters} {old list : List ℕ} (g : Shared p old list) (m i j : ℕ) where
+  abbrev same : ℕ → ℕ → ℕ
+  same a b = sameMonomial (monomialAt (p .dx) a) (monomialAt (p .dr) b) (monomialAt (degree p) m)
 
--- ---- one pair
-module _ (n q d : ℕ) (key : Polynomial) (m i j : ℕ) (old : List ℕ) where
-  abbrev same : ℕ
-  same = sameMonomial (monomialAt d i) (monomialAt d j) (monomialAt (d + d) m)
+  turned : same j i ≡ same i j
+  turned = rw (g .one-degree) (sameMonomial-comm (monomialAt (p .dr) j) (monomialAt (p .dr) i) (monomialAt (p .dr + p .dr) m))
 
-  abbrev withBoth : Element
-  withBoth k = part old (7 * n) k + bothTerms n d key (maskIn n old) m k i j
-
-  turned : sameMonomial (monomialAt d j) (monomialAt d i) (monomialAt (d + d) m) ≡ same
-  turned = sameMonomial-comm (monomialAt d j) (monomialAt d i) (monomialAt (d + d) m)
-
-  pub summed-no-pair : InRing q n (part old (7 * n)) → same ≡ 0 → Summed n q withBoth old old
-  summed-no-pair r e = summed-none r (λ k l. rw (turned, e, mul-zero, mul-zero) (add-zero (part old (7 * n) k)))
+  pub gains-no-pair : InRing (p .q) (p .n) (sumIn p old) → same i j ≡ 0 → SumGains p (bothTerms p (keyIn p list) m i j) old old
+  gains-no-pair below e = gains-none _ below (λ k l. rw (turned, e, mul-zero, mul-zero))
 
   -- the product of the sums, less the two of the diagonal
-  pub summed-both : (diagonal : List ℕ) {mid last new : List ℕ} → 0 < q → (same ≡ 0 → ⊥)
-      → ((k : ℕ) → k < n → part diagonal (i * n) k ≡ conv n (key i) (maskIn n old i) k % q)
-      → ((k : ℕ) → k < n → part diagonal (j * n) k ≡ conv n (key j) (maskIn n old j) k % q)
-      → Summed n q (λ k. part old (7 * n) k + conv n (add (key i) (key j)) (add (maskIn n old i) (maskIn n old j)) k) old mid
-      → Summed n q (λ k. part mid (7 * n) k + (q - part diagonal (i * n) k)) mid last
-      → Summed n q (λ k. part last (7 * n) k + (q - part diagonal (j * n) k)) last new
-      → Summed n q withBoth old new
-  summed-both diagonal pos h first second product less lesser =
-      let one : same ≡ 1 = sameMonomial-one (monomialAt d i) (monomialAt d j) (monomialAt (d + d) m) h in
-      let taken = summed-then (λ k. q - part diagonal (i * n) k) product less (λ k l. refl) in
-      let all : Summed n q (λ k. sumsLess n q pos (key i) (key j) (maskIn n old i) (maskIn n old j) (part old (7 * n) k) k) old _ =
-      summed-then (λ k. q - part diagonal (j * n) k) taken lesser (λ k l. rw (first k l, second k l)) in
-      summed-same (summed-cong all (λ k l. cong-pair n q pos (key i) (key j) (maskIn n old i) (maskIn n old j) (part old (7 * n) k) k))
-      (λ k l. rw (turned, one, mul-one, mul-one))
+  pub gains-both : {first second : ℕ} {mid last new : List ℕ} → i < monomialCount (p .dx) → j < i → same i j ≡ 1
+      → first ≡ (monomialCount (p .dx) + i) * p .n → second ≡ (monomialCount (p .dx) + j) * p .n
+      → SumGains p (λ mask. conv (p .n) (pairSum (keyIn p list) i j) (pairSum mask i j)) old mid
+      → SumGains p (λ mask k. p .q - part list first k) mid last
+      → SumGains p (λ mask k. p .q - part list second k) last new
+      → SumGains p (bothTerms p (keyIn p list) m i j) old new
+  gains-both {last = last} {new = new} l b one e f product less lesser =
+      let key = keyIn p list in
+      let sums : Polynomial → Element = λ mask. conv (p .n) (pairSum key i j) (pairSum mask i j) in
+      let both : SumIs p (λ mask k. sumIn p old k + sums mask k + (p .q - square p key mask i k)) old last =
+      sum-then _ (product .is) less (λ k h. rw (e, g .squares i l k h)) in
+      let all : SumIs p (λ mask k. sumIn p old k + sums mask k + (p .q - square p key mask i k) + (p .q - square p key mask j k)) old new =
+      sum-then _ both lesser (λ k h. rw (f, g .squares j (omega arith) k h)) in
+      record {
+        is =
+            sum-cong all (λ k h.
+            cong-trans (cong-pair (p .n) (p .q) (modulus-positive p (shared-set g)) (key i) (key j) (maskIn p old i) (maskIn p old j) (sumIn p old k) k)
+            (cong-of-eq (rw (turned, one, mul-one, mul-one))));
+      }
 
--- a place with itself, from the diagonal
-pub summed-square : (n q d : ℕ) (key : Polynomial) (m i : ℕ) (old diagonal : List ℕ) {new : List ℕ}
-    → ((k : ℕ) → k < n → part diagonal (i * n) k ≡ conv n (key i) (maskIn n old i) k % q)
-    → Summed n q (λ k. part old (7 * n) k + part diagonal (i * n) k * sameMonomial (monomialAt d i) (monomialAt d i) (monomialAt (d + d) m)) old new
-    → Summed n q (λ k. part old (7 * n) k + pairTerm n d d key (maskIn n old) m k i i) old new
-summed-square n q d key m i old diagonal first s = summed-cong s (λ k l. rw (first k l) (cong-add cong-refl (cong-mul (cong-mod q _) cong-refl)))
+pub gains-square : {p : Parameters} {old list : List ℕ} (g : Shared p old list) (m i : ℕ) {at : ℕ} {new : List ℕ} → i < monomialCount (p .dx)
+    → sameMonomial (monomialAt (p .dx) i) (monomialAt (p .dr) i) (monomialAt (degree p) m) ≡ 1 → at ≡ (monomialCount (p .dx) + i) * p .n
+    → SumGains p (λ mask. part list at) old new → SumGains p (pairTerm p (keyIn p list) m i i) old new
+gains-square {p} g m i l one e s =
+    record { is = sum-cong (s .is) (λ k h. rw (e, g .squares i l k h, one, mul-one) (cong-add cong-refl (cong-mod (p .q) _))) }
 
--- ---- one pair after the other: the terms depend on the mask's parts alone
-module _ {n q : ℕ} {old mid : List ℕ} (d : ℕ) (key : Polynomial) (m : ℕ) where
-  both-kept : {f : Element} {i j : ℕ} (k : ℕ) → i < 6 → j < i → Summed n q f old mid → bothTerms n d key (maskIn n mid) m k i j ≡ bothTerms n d key (maskIn n old) m k i j
-  both-kept {i = i} {j = j} k l b s = ap₂ _+_ (pairTerm-kept d d key m k i j s (omega arith)) (pairTerm-kept d d key m k j i s l)
+pub gains-row : {p : Parameters} (key : Polynomial) (m i : ℕ) {j : ℕ} {old mid new : List ℕ} → j ≡ i → SumGains p (pairTerm p key m i i) old mid
+    → SumGains p (firstTerms j (bothTerms p key m i)) mid new → SumGains p (rowOfPairs p key m i) old new
+gains-row key m i e s t = record { is = sum-then _ (s .is) t (λ k l. rw e (omega arith)) }
 
-  row-kept : {f : Element} {i : ℕ} (k : ℕ) → i < 6 → Summed n q f old mid → rowOfPairs n d key (maskIn n mid) m k i ≡ rowOfPairs n d key (maskIn n old) m k i
-  row-kept {i = i} k l s = ap₂ _+_ (pairTerm-kept d d key m k i i s l) (sum-cong i (λ j b. both-kept k l b s))
-
-  pub summed-row-more : {i j : ℕ} {new : List ℕ} → i < 6 → j < i → Summed n q (λ k. part old (7 * n) k + sum j (bothTerms n d key (maskIn n old) m k i)) old mid
-      → Summed n q (λ k. part mid (7 * n) k + bothTerms n d key (maskIn n mid) m k i j) mid new
-      → Summed n q (λ k. part old (7 * n) k + sum (j + 1) (bothTerms n d key (maskIn n old) m k i)) old new
-  summed-row-more {i} {j} l b s t =
-      summed-then (λ k. bothTerms n d key (maskIn n mid) m k i j) s t (λ k h. omega (arith, both-kept k l b s, sum-next j (bothTerms n d key (maskIn n old) m k i)))
-
-  pub summed-row : {i j : ℕ} {new : List ℕ} → i < 6 → j ≡ i → Summed n q (λ k. part old (7 * n) k + pairTerm n d d key (maskIn n old) m k i i) old mid
-      → Summed n q (λ k. part mid (7 * n) k + sum j (bothTerms n d key (maskIn n mid) m k i)) mid new
-      → Summed n q (λ k. part old (7 * n) k + rowOfPairs n d key (maskIn n old) m k i) old new
-  summed-row {i} {j} l e s t =
-      summed-then (λ k. sum j (bothTerms n d key (maskIn n mid) m k i)) s t (λ k h. rw e (omega (arith, sum-cong i (λ x b. both-kept {i = i} {j = x} k l b s))))
-
-  pub summed-rows-more : {i : ℕ} {new : List ℕ} → i < 6 → Summed n q (λ k. sum i (rowOfPairs n d key (maskIn n old) m k)) old mid
-      → Summed n q (λ k. part mid (7 * n) k + rowOfPairs n d key (maskIn n mid) m k i) mid new
-      → Summed n q (λ k. sum (i + 1) (rowOfPairs n d key (maskIn n old) m k)) old new
-  summed-rows-more {i} l s t =
-      summed-then (λ k. rowOfPairs n d key (maskIn n mid) m k i) s t (λ k h. omega (arith, row-kept k l s, sum-next i (rowOfPairs n d key (maskIn n old) m k)))
-
-  -- all rows, from a sum that was 0
-  pub summed-rows : {new : List ℕ} → d ≤ 2 → Summed n q (λ k. 0) old mid → Summed n q (λ k. sum (monomialCount d) (rowOfPairs n d key (maskIn n mid) m k)) mid new
-      → Summed n q (productOf n d d key (maskIn n old) m) old new
-  summed-rows low s t = summed-product d d key m low s (summed-same t (λ k l. sym (sum-square (monomialCount d) (pairTerm n d d key (maskIn n mid) m k))))
+pub rows-product : {p : Parameters} (key : Polynomial) (m : ℕ) {old mid new : List ℕ} → p .dx ≡ p .dr → SumIs p (λ mask k. 0) old mid
+    → SumGains p (firstTerms (monomialCount (p .dx)) (rowOfPairs p key m)) mid new → SumIs p (productTerm p key m) old new
+rows-product {p} key m {mid = mid} e s t =
+    terms-product key m s (gains-by (firstTerms (monomialCount (p .dx)) (elementTerms p key m)) t (λ k l.
+    sym (sum-square (monomialCount (p .dx)) (λ i j. pairTerm p key m i j (maskIn p mid) k))
+    ∙ ap (λ (d : ℕ). sum (monomialCount (p .dx)) (λ i. sum (monomialCount d) (λ j. pairTerm p key m i j (maskIn p mid) k))) e))

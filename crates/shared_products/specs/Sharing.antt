@@ -1,68 +1,69 @@
--- How X × r is taken where both have degree d: X_i r_j + X_j r_i is (X_i + X_j)(r_i + r_j) less X_i r_i and X_j r_j, and the products
--- X_i r_i, the diagonal, are taken once. The key's elements and the diagonal stand in two lists of their own.
+-- How X × r is taken where both have one degree: X_i r_j + X_j r_i is (X_i + X_j)(r_i + r_j) less X_i r_i and X_j r_j, and the products
+-- X_i r_i, the diagonal, are taken once. The key's elements stand in a list, end to end, and the diagonal behind them.
 --
---   keyIn            the key whose elements stand in a list, end to end
---   Holds            a list holds the first elements of a polynomial, end to end
---   Prepared         the key's elements and the diagonal stand in their lists
---   SharedInputs     what is asked of the two lists, the mask and m
---   Pair             what the product of X_i + X_j and r_i + r_j asks, where j is before i
---   Kept             the first six parts are as they were
---   bothTerms        what the pair (i, j) and the pair (j, i) add at the monomial m, at place k
+--   keyIn, diagonalIn   the key's elements and the diagonal in the list
+--   square           X_i r_i in R_q;  pairSum: the sum of two elements of a polynomial
+--   elementPrepared  the list with the key's i-th element and its product written
+--   Prepared         the first so many elements of the key, and as many of the diagonal, stand in the list
+--   PreparedKey      all of a public key's and a mask's do, and both have one degree
+--   Shared           what is asked of the list and the mask;  SharedAdding: the same with a place m of the product and a sum below q
+--   bothTerms        what the pair (i, j) and the pair (j, i) add to the m-th element
 --   rowOfPairs       what the pairs of i with itself and with every place before it add
 -- Assumes nothing.
 use Prim.Native.Nat.{ℕ, _+_, _*_, _%_, _≤_, _<_}
 use mathlib.Core.Path.{_≡_}
 use mathlib.Core.List.{List}
-use lib.ListN.{length, getD}
-use Rattle.definitions.specs.Sequences.{sum}
-use Rattle.definitions.specs.Parameters.{monomialCount}
-use Rattle.definitions.specs.Ring.{InRing, conv}
+use lib.ListN.{length}
+use Rattle.definitions.specs.Sequences.{tabulate}
+use Rattle.definitions.specs.Parameters.{Parameters, degree, monomialCount, workLength}
+use Rattle.definitions.specs.Ring.{Element, InRing, conv}
 use Rattle.definitions.specs.Monomials.{Polynomial}
-use Rattle.ring.specs.Work.{part}
-use Rattle.mask_products.specs.Products.{maskIn, pairTerm}
+use Rattle.definitions.specs.Calls.{polynomialFrom}
+use Rattle.definitions.specs.Demand3.{AcceptedSet}
+use Rattle.ring.specs.Work.{part, written}
+use Rattle.mask_products.specs.Products.{maskIn, sumIn, pairTerm, firstTerms}
 
-abbrev pub keyIn : ℕ → List ℕ → Polynomial
-keyIn n keys i = part keys (i * n)
+abbrev pub keyIn : Parameters → List ℕ → Polynomial
+keyIn p list i = part list (i * p .n)
 
-abbrev pub Holds : ℕ → ℕ → Polynomial → List ℕ → Type 0
-Holds n count f list = (i : ℕ) → i < count → (k : ℕ) → k < n → part list (i * n) k ≡ f i k
+abbrev pub diagonalIn : Parameters → List ℕ → Polynomial
+diagonalIn p list i = part list ((monomialCount (p .dx) + i) * p .n)
 
-pub record Prepared (n q d : ℕ) (key mask : Polynomial) (keys diagonal : List ℕ) : Type 0 where
-  pub keys-room : monomialCount d * n ≤ length keys
-  pub diagonal-room : monomialCount d * n ≤ length diagonal
-  pub elements : Holds n (monomialCount d) key keys
-  pub squares : Holds n (monomialCount d) (λ i k. conv n (key i) (mask i) k % q) diagonal
+abbrev pub square : Parameters → Polynomial → Polynomial → Polynomial
+square p key mask i k = conv (p .n) (key i) (mask i) k % p .q
 
-pub record SharedInputs (n q d m : ℕ) (work keys diagonal : List ℕ) : Type 0 where
-  pub most : n ≤ 4096
-  pub room : length work ≡ 8 * n
-  pub modulus-least : 0 < q
-  pub modulus-most : q < 2147483648
-  pub degree-most : d ≤ 2
-  pub place : m < monomialCount (d + d)
-  pub key : (i : ℕ) → i < monomialCount d → InRing q n (keyIn n keys i)
-  pub mask : (i : ℕ) → i < monomialCount d → InRing q n (maskIn n work i)
-  pub prepared : Prepared n q d (keyIn n keys) (maskIn n work) keys diagonal
+abbrev pub pairSum : Polynomial → ℕ → ℕ → Element
+pairSum f i j k = f i k + f j k
 
-pub record Pair (n q i j : ℕ) (work keys : List ℕ) : Type 0 where
-  pub most : n ≤ 4096
-  pub room : length work ≡ 8 * n
-  pub modulus-least : 0 < q
-  pub modulus-most : q < 2147483648
-  pub first : i < 6
-  pub second : j < i
-  pub keys-room : i * n + n ≤ length keys
-  pub key-first : InRing q n (keyIn n keys i)
-  pub key-second : InRing q n (keyIn n keys j)
-  pub mask-first : InRing q n (maskIn n work i)
-  pub mask-second : InRing q n (maskIn n work j)
+abbrev pub elementPrepared : Parameters → Polynomial → Polynomial → ℕ → List ℕ → List ℕ
+elementPrepared p key mask i list =
+    written ((monomialCount (p .dx) + i) * p .n) (tabulate (p .n) (square p key mask i)) (written (i * p .n) (tabulate (p .n) (key i)) list)
 
-pub record Kept (n : ℕ) (old new : List ℕ) : Type 0 where
-  pub same : (i : ℕ) → i < 6 * n → getD new i 0 ≡ getD old i 0
-  pub as-long : length new ≡ length old
+pub record Prepared (p : Parameters) (count : ℕ) (key mask : Polynomial) (list : List ℕ) : Type 0 where
+  pub elements : (i : ℕ) → i < count → (k : ℕ) → k < p .n → keyIn p list i k ≡ key i k
+  pub squares : (i : ℕ) → i < count → (k : ℕ) → k < p .n → diagonalIn p list i k ≡ square p key mask i k
 
-abbrev pub bothTerms : ℕ → ℕ → Polynomial → Polynomial → ℕ → ℕ → ℕ → ℕ → ℕ
-bothTerms n d key mask m k i j = pairTerm n d d key mask m k i j + pairTerm n d d key mask m k j i
+pub record PreparedKey (p : Parameters) (public work list : List ℕ) : Type 0 where
+  pub one-degree : p .dx ≡ p .dr
+  pub room : 2 * (monomialCount (p .dx) * p .n) ≤ length list
+  pub prepared : Prepared p (monomialCount (p .dx)) (polynomialFrom p public) (maskIn p work) list
 
-abbrev pub rowOfPairs : ℕ → ℕ → Polynomial → Polynomial → ℕ → ℕ → ℕ → ℕ
-rowOfPairs n d key mask m k i = pairTerm n d d key mask m k i i + sum i (bothTerms n d key mask m k i)
+pub record Shared (p : Parameters) (work list : List ℕ) : Type 0 where
+  pub set : AcceptedSet p
+  pub one-degree : p .dx ≡ p .dr
+  pub work-exact : length work ≡ workLength p
+  pub room : 2 * (monomialCount (p .dx) * p .n) ≤ length list
+  pub key : (i : ℕ) → i < monomialCount (p .dx) → InRing (p .q) (p .n) (keyIn p list i)
+  pub mask : (i : ℕ) → i < monomialCount (p .dx) → InRing (p .q) (p .n) (maskIn p work i)
+  pub squares : (i : ℕ) → i < monomialCount (p .dx) → (k : ℕ) → k < p .n → diagonalIn p list i k ≡ square p (keyIn p list) (maskIn p work) i k
+
+pub record SharedAdding (p : Parameters) (m : ℕ) (work list : List ℕ) : Type 0 where
+  pub inputs : Shared p work list
+  pub place : m < monomialCount (degree p)
+  pub below : InRing (p .q) (p .n) (sumIn p work)
+
+abbrev pub bothTerms : Parameters → Polynomial → ℕ → ℕ → ℕ → Polynomial → Element
+bothTerms p key m i j mask k = pairTerm p key m i j mask k + pairTerm p key m j i mask k
+
+abbrev pub rowOfPairs : Parameters → Polynomial → ℕ → ℕ → Polynomial → Element
+rowOfPairs p key m i mask k = pairTerm p key m i i mask k + firstTerms i (bothTerms p key m i) mask k

@@ -1,77 +1,67 @@
 -- `add_pair` leaves the sum where the pair's product is another monomial, and otherwise loads the key's element and adds the product.
 -- Assumes nothing.
-use Prim.Native.Nat.{_+_, _*_, _≤_}
+use Prim.Native.Nat.{_*_}
+use native.Mathlib.Nat.{mul-one, mul-zero}
 use native.Mathlib.Omega.{arith}
-use mathlib.Core.Path.{_≡_, sym, _∙_}
+use mathlib.Core.Path.{refl, _∙_}
 use borrow.Author.Needs.{needs}
-use lib.ListN.{length}
-use Rattle.decoding.specs.Elements.{flat}
-use Rattle.ring.proofs.Lent.{part-room}
-use Rattle.mask_products.proofs.Sums.{count-six, key-room, key-loaded, mask-loaded, summed-written, summed-no-pair, summed-pair}
+use Rattle.definitions.specs.Calls.{polynomialFrom}
+use Rattle.definitions.proofs.Parameters.{key-degree-most, mask-degree-most}
+use Rattle.definitions.proofs.Ring.{conv-cong}
+use Rattle.parameters.specs.Answers.{setFrom}
+use Rattle.monomials.proofs.Table.{flag-none, flag-one}
+use Rattle.ring.proofs.Work.{Wrote, wrote}
+use Rattle.karatsuba.proofs.Steps.{inside-ring}
+use Rattle.mask_products.specs.Products.{pairTerm}
+use Rattle.mask_products.proofs.Sums.{inputs-set, inputs-room, mask-few, key-below, spare-mask, gains-none, gains-spare}
 use Rattle.mask_products.proofs.add_pair.Statement.{statement}
 use Rattle.mask_products.proofs.add_pair.Tie as tie
 
+abbrev start : tie.After-same-monomial → tie.Start
+start c = c .before .before .before
+
+abbrev tested : tie.After-load-key → tie.Else1
+tested c = c .before .before
+
 same-monomial-requires : tie.Need-same-monomial-requires
 same-monomial-requires c κs =
-    let p = c .before .before .pre in
-    (p .0 .key-degree, p .0 .mask-degree, p .1, p .2, p .0 .place)
+    let s = c .before .before in
+    let set = inputs-set (s .pre .0 .inputs) in
+    (key-degree-most _ set, mask-degree-most _ set, s .pre .1, s .pre .2, s .pre .0 .place)
 
 returns : tie.Need-returns
 returns c =
-    let s = c .before .before .before .before in
-    let a = s .args in
-    summed-no-pair (a .n) (a .q) (a .dx) (a .dr) (flat (a .n) (a .qlen) (a .public .now)) (a .m) (a .i) (a .j) (a .work .now) (s .pre .3)
-    (sym (c .before .same-monomial .ensures) ∙ c .if1 .taken)
+    let s = start (c .before) in
+    let none = flag-none (c .before .same-monomial .result) (c .before .same-monomial .ensures) (c .if1 .taken) in
+    gains-none (pairTerm (setFrom (s .args .p)) (polynomialFrom (setFrom (s .args .p)) (s .args .public .now)) (s .args .m) (s .args .i) (s .args .j)) (s .pre .0 .below)
+    (λ k l. rw none (mul-zero _))
 
-mul-spare : tie.Need-mul-spare
-mul-spare c = omega (arith, c .before .before .before .before .pre .0 .sizes .most)
+-- the key's element in part 6
+loaded : (c : tie.After-load-key) → Wrote (6 * start (tested c .before) .args .p .n) (start (tested c .before) .args .p .n)
+    (polynomialFrom (setFrom (start (tested c .before) .args .p)) (start (tested c .before) .args .public .now) (start (tested c .before) .args .i))
+    (start (tested c .before) .args .work .now) (c .load-key .last .1 .1 .1 .0)
+loaded c = wrote (omega (arith, inputs-room (start (tested c .before) .pre .0 .inputs))) (c .load-key .ensures)
 
-element-requires : tie.Need-element-requires
-element-requires c κs =
-    let s = c .before .before .before .before .before in
-    let a = s .args in
-    let g = s .pre .0 in (
-      g .sizes,
-      omega (arith, count-six (a .dx) (g .key-degree), s .pre .1),
-      key-room g (s .pre .1),
-      omega (arith, g .sizes .room),
-    )
-
-mul-multiply-add : tie.Need-mul-multiply-add
-mul-multiply-add c =
-    let s = c .before .before .before .before .before .before .before .before .before in
-    let room : s .args .j * s .args .n + s .args .n ≤ 6 * s .args .n =
-    part-room (s .args .n) (s .args .j) 6 (omega (arith, count-six (s .args .dr) (s .pre .0 .mask-degree), s .pre .2)) in
-    omega (arith, s .pre .0 .sizes .most)
-
-mul-multiply-add-2 : tie.Need-mul-multiply-add-2
-mul-multiply-add-2 c = omega (arith, c .before .before .before .before .before .before .before .before .before .pre .0 .sizes .most)
-
-multiply-add-requires : tie.Need-multiply-add-requires
-multiply-add-requires c κs =
-    let s = c .before .before .before .before .before .before .before .before .before in
-    let a = s .args in
-    let g = s .pre .0 in
-    let load = c .before .before .before .element in
-    let few : a .j * a .n + a .n ≤ 6 * a .n = part-room (a .n) (a .j) 6 (omega (arith, count-six (a .dr) (g .mask-degree), s .pre .2)) in
-    let words : length (load .last .1 .1 .1 .1 .0) ≡ 8 * a .n = load .kept .1 .1 .1 .1 .0 ∙ g .sizes .room in (
-      (omega arith, omega arith, omega arith, g .sizes .most, g .modulus-least, omega arith, g .modulus-most),
-      (key-loaded g (s .pre .1) (load .ensures), mask-loaded g (a .i) (s .pre .2) few (load .ensures)),
+multiply-mask-requires : tie.Need-multiply-mask-requires
+multiply-mask-requires c κs =
+    let call = c .before .before .before in
+    let s = start (tested call .before) in
+    let g = s .pre .0 .inputs in
+    let w = loaded call in (
+      (g .set, w .as-long ∙ g .work-exact, mask-few g (s .pre .2)),
+      (inside-ring w (key-below g (s .args .i) (s .pre .1)), λ k l. rw (spare-mask (setFrom (s .args .p)) w) (g .mask (s .args .j) (s .pre .2) k l)),
     )
 
 returns-2 : tie.Need-returns-2
 returns-2 c =
-    let s = c .before .before .before .before .before .before .before .before .before .before .before .before in
-    let a = s .args in
-    let g = s .pre .0 in
-    let few : a .j * a .n + a .n ≤ 6 * a .n = part-room (a .n) (a .j) 6 (omega (arith, count-six (a .dr) (g .mask-degree), s .pre .2)) in
-    let key = flat (a .n) (a .qlen) (a .public .now) in
-    let tested = c .before .before .before .before .before .before .before .before in
-    summed-pair (a .n) (a .q) (a .dx) (a .dr) key (a .m) (a .i) (a .j) (a .work .now)
-    (λ e. tested .if1 .left (tested .before .same-monomial .ensures ∙ e))
-    (summed-written (a .n) (a .q) (a .j * a .n) (a .work .now) _ _ (key (a .i)) (g .sizes .room) few
-    (c .before .before .before .before .before .before .element .ensures)
-    (c .before .before .multiply-add .ensures))
+    let call = c .before .before .before .before .before .before in
+    let t = tested call in
+    let s = start (t .before) in
+    let w = loaded call in
+    let one = flag-one (t .before .same-monomial .result) (t .before .same-monomial .ensures) (t .if1 .left) in
+    gains-spare (pairTerm (setFrom (s .args .p)) (polynomialFrom (setFrom (s .args .p)) (s .args .public .now)) (s .args .m) (s .args .i) (s .args .j)) w
+    (c .before .before .multiply-mask .ensures)
+    (λ k l. conv-cong (s .args .p .n) (w .inside) (λ i b. refl) k ∙ rw (one, mul-one))
 
 pub add-pair-spec : {M : Type 1} → statement M
 add-pair-spec =
@@ -79,10 +69,7 @@ add-pair-spec =
     (tie.spec
     same-monomial-requires
     returns
-    mul-spare
-    element-requires
-    mul-multiply-add
-    mul-multiply-add-2
-    multiply-add-requires
+    (λ c κs. search needs)
+    multiply-mask-requires
     (λ c. search needs)
     returns-2)

@@ -1,77 +1,65 @@
--- `product_at`: after i turns part 7 holds the terms of the key's first i monomials with all of the mask's; the sum begins at 0.
+-- `product_at`: after i turns the terms of the key's first i elements are added, to a sum that began at 0.
 -- Assumes nothing.
-use Prim.Native.Nat.{ℕ, _+_, _-_, _≤_}
+use Prim.Native.Nat.{_-_, _≤_}
 use native.Mathlib.Omega.{arith}
-use mathlib.Core.Path.{_≡_, sym, _∙_, ap}
-use Rattle.definitions.specs.Sequences.{sum}
+use mathlib.Core.Path.{_≡_, _∙_}
+use borrow.Author.Needs.{needs}
 use Rattle.definitions.specs.Parameters.{monomialCount}
-use Rattle.decoding.specs.Elements.{flat}
-use Rattle.mask_products.specs.Products.{maskIn, pairTerm, Summed}
-use Rattle.mask_products.proofs.Sums.{sum-none, sum-next, summed-same, summed-then, summed-inRing, summed-start, summed-product, terms-kept, inputs-kept}
+use Rattle.definitions.specs.Calls.{polynomialFrom}
+use Rattle.definitions.proofs.Parameters.{key-degree-most}
+use Rattle.parameters.specs.Answers.{setFrom}
+use Rattle.mask_products.specs.Products.{firstTerms, elementTerms, Adding, SumGains}
+use Rattle.mask_products.proofs.Sums.{inputs-set, adding-after, terms-none, terms-more, terms-product}
 use Rattle.mask_products.proofs.product_at.Statement.{statement}
 use Rattle.mask_products.proofs.product_at.Tie as tie
 
 abbrev Inv-loop : tie.InvT-loop
-Inv-loop public dx dr m n qlen q work₀ count i₀ work i =
-    (i ≤ count) × Summed n q (λ k. sum i (λ j. sum (monomialCount dr) (pairTerm n dx dr (flat n qlen public) (maskIn n work₀) m k j))) work₀ work
+Inv-loop p public m work₀ count i₀ work i =
+    (i ≤ count) × SumGains (setFrom p) (firstTerms i (elementTerms (setFrom p) (polynomialFrom (setFrom p) public) m)) work₀ work
 
 abbrev μ-loop : tie.MeasureT-loop
-μ-loop public dx dr m n qlen q work₀ count i₀ work i = count - i
+μ-loop p public m work₀ count i₀ work i = count - i
+
+abbrev cleared : tie.At-loop Inv-loop μ-loop → tie.After-clear-sum Inv-loop μ-loop
+cleared c = c .before .before .before .before
+
+abbrev start : tie.After-clear-sum Inv-loop μ-loop → tie.Start Inv-loop μ-loop
+start c = c .before .before .before .before
 
 clear-sum-requires : tie.Need-clear-sum-requires Inv-loop μ-loop
-clear-sum-requires c κs =
-    let g = c .before .before .before .pre in
-    (g .sizes .most, g .sizes .room, g .modulus-least)
+clear-sum-requires c κs = let g = c .before .before .before .pre .0 in (g .set, g .work-exact)
 
-cast-monomial-count : tie.Need-cast-monomial-count Inv-loop μ-loop
-cast-monomial-count c = omega (arith, c .before .before .before .before .before .before .pre .key-degree)
+-- the cleared sum
+begun : (c : tie.After-clear-sum Inv-loop μ-loop) → Adding (setFrom (start c .args .p)) (start c .args .m) (start c .args .public .now) (c .clear-sum .last .1 .0)
+begun c = adding-after (start c .pre .0) (start c .pre .1) (c .clear-sum .ensures)
 
 monomial-count-requires : tie.Need-monomial-count-requires Inv-loop μ-loop
-monomial-count-requires c κs = omega (arith, c .before .before .before .before .before .before .pre .key-degree)
+monomial-count-requires c κs = omega (arith, key-degree-most _ (inputs-set (start (c .before .before) .pre .0)))
 
 loop-holds : tie.Need-loop-holds Inv-loop μ-loop
-loop-holds c = (omega arith, summed-same (summed-start (c .before .before .before .clear-sum .ensures)) (λ k l. sym (sum-none _)))
+loop-holds c = (omega arith, terms-none _ (begun (c .before .before .before) .below))
 
 add-element-requires : tie.Need-add-element-requires Inv-loop μ-loop
 add-element-requires c κs =
-    let g = c .before .before .before .before .before .before .before .before .before .before .pre in
-    let inv = c .before .before .loop .inv .1 in (
-      inputs-kept (inputs-kept g (c .before .before .before .before .before .before .clear-sum .ensures)) inv,
-      omega (arith, c .before .before .before .monomial-count .ensures),
-      summed-inRing (g .modulus-least) inv,
-    )
-
-add-i : tie.Need-add-i Inv-loop μ-loop
-add-i c = omega arith
-
-loop-less : tie.Need-loop-less Inv-loop μ-loop
-loop-less c = omega arith
+    let l = c .before .before in
+    let b = begun (cleared l) in
+    (adding-after (b .inputs) (b .place) (l .loop .inv .1 .is), omega (arith, l .before .monomial-count .ensures))
 
 loop-again : tie.Need-loop-again Inv-loop μ-loop
 loop-again c =
-    let s = c .before .before .before .before .before .before .before .before .before .before .before .before .before in
-    let a = s .args in
-    let l = c .before .before .before .before .before .loop in
-    let mid = c .before .before .before .before .before .before .before .before .before .clear-sum .last .0 in
-    let key = flat (a .n) (a .qlen) (a .public .now) in
-    let f : ℕ → ℕ → ℕ = λ k i. sum (monomialCount (a .dr)) (pairTerm (a .n) (a .dx) (a .dr) key (maskIn (a .n) mid) (a .m) k i) in (
-      omega arith,
-      summed-then _ (l .inv .1) (c .before .before .add-element .ensures) (λ k b.
-          ap (λ (x : ℕ). sum (l .i) (f k) + x) (terms-kept (a .dx) (a .dr) key (a .m) k (l .i) (l .inv .1) (s .pre .mask-degree))
-          ∙ sym (sum-next (l .i) (f k))),
-    )
+    let l = c .before .before .before .before .before in
+    let a = start (cleared l) .args in
+    (omega arith, terms-more (elementTerms (setFrom (a .p)) (polynomialFrom (setFrom (a .p)) (a .public .now)) (a .m)) (l .loop .i) (l .loop .inv .1) (c .before .before .add-element .ensures))
 
 same-length : tie.Need-same-length Inv-loop μ-loop
-same-length c = c .before .loop .inv .1 .as-long ∙ c .before .before .before .before .before .clear-sum .ensures .as-long
+same-length c = c .before .loop .inv .1 .is .as-long ∙ cleared (c .before) .clear-sum .ensures .as-long
 
 returns : tie.Need-returns Inv-loop μ-loop
 returns c =
-    let s = c .before .before .before .before .before .before .before .before .before in
-    let a = s .args in
-    let e : c .before .loop .i ≡ monomialCount (a .dx) = omega (arith, c .before .before .monomial-count .ensures) in
-    summed-product (a .dx) (a .dr) (flat (a .n) (a .qlen) (a .public .now)) (a .m) (s .pre .mask-degree)
-    (c .before .before .before .before .before .clear-sum .ensures)
-    (rw (← e) (c .before .loop .inv .1))
+    let l = c .before in
+    let a = start (cleared l) .args in
+    let e : l .loop .i ≡ monomialCount (a .p .dx) = omega (arith, l .before .monomial-count .ensures) in
+    terms-product (polynomialFrom (setFrom (a .p)) (a .public .now)) (a .m) (cleared l .clear-sum .ensures) (rw (← e) (l .loop .inv .1))
 
 pub product-at-spec : {M : Type 1} → statement M
 product-at-spec =
@@ -80,12 +68,11 @@ product-at-spec =
     Inv-loop
     μ-loop
     clear-sum-requires
-    cast-monomial-count
     monomial-count-requires
     loop-holds
     add-element-requires
-    add-i
-    loop-less
+    (λ c. search needs)
+    (λ c. search needs)
     loop-again
     same-length
     returns)

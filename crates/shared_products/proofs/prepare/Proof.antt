@@ -1,101 +1,84 @@
--- `prepare`: after i turns the first i elements of the key and the first i products stand in their lists.
+-- `prepare`: after i turns the first i elements of the key and the first i products stand in the list, and the mask is as it was.
 -- Assumes nothing.
-use Prim.Native.Nat.{ℕ, _+_, _-_, _*_, _%_, _≤_, _<_}
+use Prim.Native.Nat.{ℕ, _+_, _-_, _*_, _≤_, _<_}
 use native.Mathlib.Nat.{not-suc-le-zero}
 use native.Mathlib.Omega.{arith}
 use mathlib.Core.Path.{_≡_, refl, _∙_, ap}
 use mathlib.Core.List.{List}
-use lib.ListN.{length}
+use borrow.Author.Needs.{needs}
+use lib.ListN.{length, getD, take}
 use Rattle.definitions.specs.Parameters.{monomialCount}
-use Rattle.definitions.specs.Ring.{conv}
-use Rattle.definitions.proofs.Sums.{tabulate-cong}
-use Rattle.definitions.proofs.Ring.{conv-cong}
-use Rattle.ring.specs.Work.{written}
-use Rattle.decoding.specs.Elements.{flat}
-use Rattle.ring.proofs.Lent.{part-room}
+use Rattle.definitions.specs.Calls.{polynomialFrom}
+use Rattle.definitions.proofs.Parameters.{key-degree-most}
+use Rattle.parameters.specs.Answers.{setFrom}
 use Rattle.mask_products.specs.Products.{maskIn}
-use Rattle.mask_products.proofs.Sums.{count-six, inputs-same}
-use Rattle.shared_products.specs.Sharing.{Holds, Kept}
-use Rattle.shared_products.proofs.Turns.{holds-more}
+use Rattle.mask_products.proofs.Sums.{inputs-set, inputs-kept}
+use Rattle.shared_products.specs.Sharing.{Prepared, elementPrepared}
+use Rattle.shared_products.proofs.Terms.{prepared-more}
 use Rattle.shared_products.proofs.prepare.Statement.{statement}
 use Rattle.shared_products.proofs.prepare.Tie as tie
 
 abbrev Inv-loop : tie.InvT-loop
-Inv-loop public d n qlen q work₀ keys₀ diagonal₀ count i₀ work keys diagonal i =
+Inv-loop p public work₀ list₀ count i₀ work list i =
     (i ≤ count)
-    × Kept n work₀ work
-    × (length keys ≡ length keys₀)
-    × (length diagonal ≡ length diagonal₀)
-    × Holds n i (flat n qlen public) keys
-    × Holds n i (λ j k. conv n (flat n qlen public j) (maskIn n work₀ j) k % q) diagonal
+    × (take (6 * p .n) work ≡ take (6 * p .n) work₀)
+    × (length work ≡ length work₀)
+    × (length list ≡ length list₀)
+    × Prepared (setFrom p) i (polynomialFrom (setFrom p) public) (maskIn (setFrom p) work₀) list
 
 abbrev μ-loop : tie.MeasureT-loop
-μ-loop public d n qlen q work₀ keys₀ diagonal₀ count i₀ work keys diagonal i = count - i
+μ-loop p public work₀ list₀ count i₀ work list i = count - i
 
-cast-monomial-count : tie.Need-cast-monomial-count Inv-loop μ-loop
-cast-monomial-count c = omega (arith, c .before .before .before .before .pre .0 .key-degree)
+abbrev start : tie.At-loop Inv-loop μ-loop → tie.Start Inv-loop μ-loop
+start c = c .before .before .before .before .before
 
 monomial-count-requires : tie.Need-monomial-count-requires Inv-loop μ-loop
-monomial-count-requires c κs = omega (arith, c .before .before .before .before .pre .0 .key-degree)
+monomial-count-requires c κs = omega (arith, key-degree-most _ (inputs-set (c .before .before .before .pre .0)))
 
 loop-holds : tie.Need-loop-holds Inv-loop μ-loop
-loop-holds c = (omega arith, record { same = λ i l. refl; as-long = refl }, refl, refl, (λ j l k b. absurd (not-suc-le-zero l)), (λ j l k b. absurd (not-suc-le-zero l)))
+loop-holds c =
+    (omega arith, refl, refl, refl, record { elements = λ j l k b. absurd (not-suc-le-zero l); squares = λ j l k b. absurd (not-suc-le-zero l) })
+
+-- a turn's element is one of the key's
+below : (c : tie.In-loop Inv-loop μ-loop) → c .before .loop .i < monomialCount (start (c .before) .args .p .dx)
+below c = omega (arith, c .before .before .monomial-count .ensures)
 
 prepare-element-requires : tie.Need-prepare-element-requires Inv-loop μ-loop
 prepare-element-requires c κs =
-    let s = c .before .before .before .before .before .before .before .before .before .before in
-    let inv = c .before .before .before .before .loop .inv in
-    let below : c .before .before .before .before .loop .i < monomialCount (s .args .d) = omega (arith, c .before .before .before .before .before .monomial-count .ensures) in
-    let room = part-room (s .args .n) (c .before .before .before .before .loop .i) (monomialCount (s .args .d)) below in (
-      inputs-same (s .pre .0) (inv .1 .as-long) (inv .1 .same),
-      below,
-      omega (arith, inv .2, s .pre .1),
-      omega (arith, inv .3, s .pre .2),
-    )
-
-add-i : tie.Need-add-i Inv-loop μ-loop
-add-i c = omega arith
-
-loop-less : tie.Need-loop-less Inv-loop μ-loop
-loop-less c = omega arith
+    let l = c .before .before .before in
+    let s = start l in
+    ((inputs-kept (s .pre .0) (l .loop .inv .1) (l .loop .inv .2), s .pre .1, below (c .before .before)), omega (arith, l .loop .inv .3, s .pre .2))
 
 loop-again : tie.Need-loop-again Inv-loop μ-loop
 loop-again c =
-    let s = c .before .before .before .before .before .before .before .before .before .before .before .before .before .before .before .before .before in
-    let a = s .args in
-    let l = c .before .before .before .before .before .before .before .before .before .before .before .loop in
-    let inv = l .inv in
-    let call = c .before .before .before .before .before .before .prepare-element in
-    let below : l .i < monomialCount (a .d) = omega (arith, c .before .before .before .before .before .before .before .before .before .before .before .before .monomial-count .ensures) in
-    let room = part-room (a .n) (l .i) (monomialCount (a .d)) below in
-    let few = part-room (a .n) (l .i) 6 (omega (arith, count-six (a .d) (s .pre .0 .key-degree))) in (
+    let turn = c .before .before .before .before .before .before .before in
+    let l = turn .before in
+    let s = start l in
+    let p = setFrom (s .args .p) in
+    let inv = l .loop .inv in
+    let call = c .before .before .before .before .prepare-element in
+    let key = polynomialFrom p (s .args .public .now) in
+    let told : call .last .1 .1 .1 .1 .0 ≡ elementPrepared p key (maskIn p (s .args .work .now)) (l .loop .i) (l .loop .list) =
+    call .ensures .1 ∙ ap (λ (w : List ℕ). elementPrepared p key (λ j h. getD w (j * p .n + h) 0) (l .loop .i) (l .loop .list)) (inv .1) in (
       omega arith,
-      record { same = λ i b. call .ensures .0 .same i b ∙ inv .1 .same i b; as-long = call .ensures .0 .as-long ∙ inv .1 .as-long },
-      call .kept .1 .1 .1 .1 .1 .1 .1 .0 ∙ inv .2,
-      call .kept .1 .1 .1 .1 .1 .1 .1 .1 .0 ∙ inv .3,
-      holds-more (l .keys) (omega (arith, inv .2, s .pre .1)) (inv .4) (call .ensures .1 .0),
-      holds-more (l .diagonal) (omega (arith, inv .3, s .pre .2)) (inv .5)
-          (call .ensures .1 .1
-          ∙ ap (λ (w : List ℕ). written (l .i * a .n) w (l .diagonal)) (tabulate-cong (a .n) (λ k b. ap (λ (x : ℕ). x % a .q) (conv-cong (a .n) (λ h t. refl) (λ h t. inv .1 .same (l .i * a .n + h) (omega arith)) k)))),
+      call .ensures .0 ∙ inv .1,
+      call .kept .1 .1 .1 .0 ∙ inv .2,
+      call .kept .1 .1 .1 .1 .0 ∙ inv .3,
+      prepared-more (below turn) (omega (arith, inv .3, s .pre .2)) (inv .4) told,
     )
 
 same-length : tie.Need-same-length Inv-loop μ-loop
-same-length c = c .before .loop .inv .1 .as-long
+same-length c = c .before .loop .inv .2
 
 same-length-2 : tie.Need-same-length-2 Inv-loop μ-loop
-same-length-2 c = c .before .loop .inv .2
-
-same-length-3 : tie.Need-same-length-3 Inv-loop μ-loop
-same-length-3 c = c .before .loop .inv .3
+same-length-2 c = c .before .loop .inv .3
 
 returns : tie.Need-returns Inv-loop μ-loop
 returns c =
-    let s = c .before .before .before .before .before .before .before in
-    let inv = c .before .loop .inv in
-    let e : c .before .loop .i ≡ monomialCount (s .args .d) = omega (arith, c .before .before .monomial-count .ensures) in (
-      record { keys-room = omega (arith, inv .2, s .pre .1); diagonal-room = omega (arith, inv .3, s .pre .2); elements = rw (← e) (inv .4); squares = rw (← e) (inv .5) },
-      inv .1,
-    )
+    let l = c .before in
+    let s = start l in
+    let e : l .loop .i ≡ monomialCount (s .args .p .dx) = omega (arith, l .before .monomial-count .ensures) in
+    (record { one-degree = s .pre .1; room = omega (arith, l .loop .inv .3, s .pre .2); prepared = rw (← e) (l .loop .inv .4) }, l .loop .inv .1)
 
 pub prepare-spec : {M : Type 1} → statement M
 prepare-spec =
@@ -103,14 +86,12 @@ prepare-spec =
     (tie.spec
     Inv-loop
     μ-loop
-    cast-monomial-count
     monomial-count-requires
     loop-holds
     prepare-element-requires
-    add-i
-    loop-less
+    (λ c. search needs)
+    (λ c. search needs)
     loop-again
     same-length
     same-length-2
-    same-length-3
     returns)
