@@ -29,14 +29,13 @@ use Rattle.definitions.proofs.Values.{value-split, value-cong, valueOver-cong}
 use Rattle.ring.specs.Work.{part, negated}
 use Rattle.ring.proofs.Work.{written-part}
 use Rattle.values.proofs.Stages.{value-cong-secret}
-use Rattle.key_generation.specs.Keys.{valueIn, withConstant}
+use Rattle.key_generation.specs.Keys.{termsLength, withConstant}
 use Rattle.key_generation.proofs.Parts.{put-tail}
 
 pub count-suc : (d : ℕ) → monomialCount d ≡ suc (monomialCount d - 1)
 count-suc d = omega (arith, monomialCount-pos d)
 
--- the octets of a key, without those of the constant
-pub publicLength-front : (p : Parameters) → publicLength p ≡ (monomialCount (p .dx) - 1) * p .n * qlen (p .q) + p .n * qlen (p .q)
+pub publicLength-front : (p : Parameters) → publicLength p ≡ termsLength p + p .n * qlen (p .q)
 unfolding publicLength elementsLength
 publicLength-front p = ap (λ (x : ℕ). x * p .n * qlen (p .q)) (count-suc (p .dx)) ∙ omega arith
 
@@ -77,16 +76,14 @@ module _ (p : Parameters) (a : Accepted p) (others : List ℕ) (sized : length o
       ∙ ap₂ _+_ (valueOver-cong (monomialCount (p .dx) - 1) (p .n) (p .dx) ux uy term-other k) (term-constant k s)
       ∙ add-zero _
 
-  front : take (publicLength p - p .n * qlen (p .q)) octets ≡ encoded (qlen (p .q)) others
+  front : take (termsLength p) octets ≡ encoded (qlen (p .q)) others
   front =
-      let long : length (encoded (qlen (p .q)) others) ≡ publicLength p - p .n * qlen (p .q) =
-      length-encoded (qlen (p .q)) others ∙ ap (λ (x : ℕ). x * qlen (p .q)) sized ∙ omega (arith, publicLength-front p) in
-      ap (take (publicLength p - p .n * qlen (p .q))) (encoded-append (qlen (p .q)) others (replicate (p .n) 0))
-      ∙ take-at (encoded (qlen (p .q)) others) (encoded (qlen (p .q)) (replicate (p .n) 0)) (publicLength p - p .n * qlen (p .q)) long
+      ap (take (termsLength p)) (encoded-append (qlen (p .q)) others (replicate (p .n) 0))
+      ∙ take-at (encoded (qlen (p .q)) others) _ (termsLength p) (length-encoded (qlen (p .q)) others ∙ ap (λ (x : ℕ). x * qlen (p .q)) sized)
 
   pub constant-octets : {public : List ℕ} (work ux uy : List ℕ) → public ≡ octets
       → ((k : ℕ) → k < p .n → part work 0 k ≡ elementOf ux k) → ((k : ℕ) → k < p .n → part work (p .n) k ≡ elementOf uy k)
-      → withConstant p (valueIn p public work) public ≡ encoded (qlen (p .q)) (others ++ tabulate (p .n) (keyConstant p others (elementOf ux) (elementOf uy)))
+      → withConstant p public work ≡ encoded (qlen (p .q)) (others ++ tabulate (p .n) (keyConstant p others (elementOf ux) (elementOf uy)))
   unfolding keyConstant
   constant-octets work ux uy same hx hy =
       rw same
@@ -97,18 +94,17 @@ module _ (p : Parameters) (a : Accepted p) (others : List ℕ) (sized : length o
       (value-cong-secret (p .n) (p .dx) (polynomialFrom p octets) hx hy k ∙ terms-value (elementOf ux) (elementOf uy) k s))))
       ∙ sym (encoded-append (qlen (p .q)) others _))
 
-module _ (p : Parameters) (public : List ℕ) where
-  pub withConstant-cong : {v w : Element} → ((k : ℕ) → k < p .n → v k ≡ w k) → withConstant p v public ≡ withConstant p w public
-  withConstant-cong h =
-      ap (λ (l : List ℕ). take (publicLength p - p .n * qlen (p .q)) public ++ encoded (qlen (p .q)) l)
-      (tabulate-cong (p .n) (λ k l. ap (λ (x : ℕ). (p .q - x) % p .q) (h k l)))
-
-  -- an element's negative, as `negate` and `encode` leave it, over the octets of the constant
-  pub constant-placed : (work new last : List ℕ) {len : ℕ} → len ≡ qlen (p .q) → length public ≡ publicLength p → 2 * p .n ≤ length work
-      → new ≡ negated (p .n) (p .q) (2 * p .n) work
-      → length last ≡ length (midOf (length public - p .n * len) (length public - (length public - p .n * len)) public)
-      → last ≡ encoded len (midOf (2 * p .n) (2 * p .n + p .n - 2 * p .n) new)
-      → putMid (length public - p .n * len) (length public - (length public - p .n * len)) public last ≡ withConstant p (part work (2 * p .n)) public
-  constant-placed work new last e sized room n same made =
-      put-tail (length public - p .n * _) public last (omega arith) same
-      ∙ rw (made, n, written-part (2 * p .n) (p .n) _ work room, sized, e)
+-- the value's negative, as `negate` and `encode` leave it, over the octets of the constant
+pub constant-placed : (p : Parameters) (public work old new last : List ℕ) {len : ℕ} → len ≡ qlen (p .q)
+    → length public ≡ termsLength p + p .n * qlen (p .q) → 2 * p .n ≤ length work
+    → ((k : ℕ) → k < p .n → part work (2 * p .n) k ≡ value (p .n) (p .dx) (polynomialFrom p public) (part old 0) (part old (p .n)) k % p .q)
+    → new ≡ negated (p .n) (p .q) (2 * p .n) work
+    → length last ≡ length (midOf (length public - p .n * len) (length public - (length public - p .n * len)) public)
+    → last ≡ encoded len (midOf (2 * p .n) (2 * p .n + p .n - 2 * p .n) new)
+    → putMid (length public - p .n * len) (length public - (length public - p .n * len)) public last ≡ withConstant p public old
+constant-placed p public work old new last {len} e sized room h n same made =
+    let at : length public - p .n * len ≡ termsLength p = omega (arith, ap (λ (m : ℕ). p .n * m) e) in
+    put-tail (length public - p .n * len) public last (omega arith) same
+    ∙ ap₂ (λ (m : ℕ) (l : List ℕ). take m public ++ l) at
+    (made ∙ rw (n, written-part (2 * p .n) (p .n) _ work room, e)
+    (ap (encoded (qlen (p .q))) (tabulate-cong (p .n) (λ k l. ap (λ (x : ℕ). (p .q - x) % p .q) (h k l)))))

@@ -6,6 +6,7 @@
 --   halves-drawn         u_x and u_y, one behind the other;  halves-kept: words that are as they were
 --   key-words            what is asked of the work words holds once all is drawn
 --   terms-drawn          a run of draws lent the words of the terms leaves them there, and u_x and u_y as they were
+--   terms-cleared        the words of the terms and a cleared element behind them
 --   used-room            the octets used are among those lent
 -- Assumes nothing.
 use Prim.Native.Nat.{ℕ, _+_, _-_, _*_, _^_, _≤_, _<_}
@@ -14,11 +15,11 @@ use native.Mathlib.Omega.{arith}
 use mathlib.Core.Path.{_≡_, ap, sym, _∙_, subst}
 use mathlib.Core.Bool.{true}
 use mathlib.Core.Logic.{⊎-elim}
-use mathlib.Core.List.{List}
-use lib.ListN.{length, getD, take, drop}
+use mathlib.Core.List.{List, _++_}
+use lib.ListN.{length, getD, take, drop, replicate}
 use lib.Seq.{slice}
-use borrow.Rule.Slice.PartMut.{midOf, putMid, mid-len}
-use Rattle.definitions.specs.Parameters.{Parameters, smallBits, qlen, monomialCount, smallLength, secretLength, workLength}
+use borrow.Rule.Slice.PartMut.{midOf, putMid, same-len-mid, mid-len}
+use Rattle.definitions.specs.Parameters.{Parameters, smallBits, qlen, monomialCount, smallLength, secretLength}
 use Rattle.definitions.specs.Ring.{elementOf, InRing}
 use Rattle.definitions.specs.Octets.{coefficientsFit}
 use Rattle.definitions.specs.Draws.{candidates, draws, secretDrawn}
@@ -33,7 +34,7 @@ use Rattle.draws.specs.declared.Run.{Run}
 use Rattle.draws.proofs.Groups.{drawsAt-within}
 use Rattle.ring.specs.Work.{part}
 use Rattle.key_generation.specs.Keys.{Follows, termsEnd, wordsTerms, HalvesDrawn, KeyWords}
-use Rattle.key_generation.proofs.Parts.{put-follows, follows-slice, follows-kept, slice-kept, slice-at}
+use Rattle.key_generation.proofs.Parts.{put-zeros, put-follows, follows-slice, follows-kept, slice-kept, slice-at}
 
 pub used-room : (p : Parameters) (random : List ℕ) → secretLength p ≤ length random
     → secretLength p + qlen (p .q) * keyDraws p random .groups ≤ length random
@@ -55,9 +56,11 @@ module _ (p : Parameters) (a : Accepted p) where
   pub small-packs : (words : List ℕ) {b : ℕ} {lent : List ℕ} → b ≡ smallBits (p .l) → lent ≡ words → InSmallRing p words
       → (1 ≤ b) × (b ≤ 4) × (coefficientsFit (2 ^ b) lent ≡ true)
   small-packs words e same small =
-      rw (e, same)
-      (smallBits-least p (a .range), smallBits-most p (a .range),
-      coefficientsFit-true _ words (λ k l. omega (arith, smallBits-power p (a .range), small .below k (rw (small .sized) at l))))
+      rw (e, same) (
+        smallBits-least p (a .range),
+        smallBits-most p (a .range),
+        coefficientsFit-true _ words (λ k l. omega (arith, smallBits-power p (a .range), small .below k (rw (small .sized) at l))),
+      )
 
   -- a half of work words whose first two parts are as they were
   module _ (at stop : ℕ) (old work : List ℕ) (e : stop ≡ at + p .n) (room : stop ≤ p .n + p .n) (kept : take (p .n + p .n) work ≡ take (p .n + p .n) old)
@@ -88,7 +91,7 @@ module _ (p : Parameters) (random work : List ℕ) where
         y = slice-kept (p .n) (p .n + p .n) (p .n + p .n) old work (omega arith) kept ∙ drawn .y;
       }
 
-  pub key-words : AcceptedSet p → length work ≡ workLength p → HalvesDrawn p random work → wordsTerms p work ≡ keyDraws p random .values → KeyWords p work
+  pub key-words : AcceptedSet p → length work ≡ 8 * p .n → HalvesDrawn p random work → wordsTerms p work ≡ keyDraws p random .values → KeyWords p work
   key-words set sized drawn terms =
       let a : Accepted p = accepted-set p set in
       record {
@@ -111,10 +114,25 @@ terms-drawn p random work words run {start} {stop} es e room sized told =
     let more : at ≤ stop = omega arith in
     let given : List ℕ = putMid at (stop - at) work words in
     let count : length (midOf at (stop - at) work) ≡ (monomialCount (p .dx) - 1) * p .n = mid-len at stop work room ∙ omega arith in
-    let f : Follows at stop words work given = put-follows at stop work more room words sized in
-    (
+    let f : Follows at stop words work given = put-follows at stop work more room words sized in (
       rw (← e, ← es)
-      (ap (λ (w : List ℕ). said run w) (follows-slice at stop words work given (omega arith) f)
-      ∙ told ∙ ap (λ (m : ℕ). drawnAnswer (draws (p .q) m (candidates (p .q) (drop start random)))) count),
+          (ap (λ (w : List ℕ). said run w) (follows-slice at stop words work given (omega arith) f)
+          ∙ told ∙ ap (λ (m : ℕ). drawnAnswer (draws (p .q) m (candidates (p .q) (drop start random)))) count),
       follows-kept at stop words work given (omega arith) f more,
+    )
+
+-- the work words with the constant's cleared: what is lent to be encoded, how many words, and the first two parts
+pub terms-cleared : (p : Parameters) (work zeros : List ℕ) {stop : ℕ} → stop ≡ termsEnd p → stop + p .n ≤ length work
+    → length zeros ≡ length (midOf stop (stop + p .n - stop) work) → zeros ≡ replicate (length (midOf stop (stop + p .n - stop) work)) 0
+    → (let given = putMid stop (stop + p .n - stop) work zeros in let lent = midOf (p .n + p .n) (stop + p .n - (p .n + p .n)) given in
+    (lent ≡ wordsTerms p work ++ replicate (p .n) 0) × (length lent ≡ (monomialCount (p .dx) - 1) * p .n + p .n)
+    × (take (p .n + p .n) given ≡ take (p .n + p .n) work))
+terms-cleared p work zeros {stop} e room same z =
+    let given : List ℕ = putMid stop (stop + p .n - stop) work zeros in
+    let left : stop + p .n - stop ≡ p .n = omega arith in
+    let f : Follows stop (stop + p .n) zeros work given = put-follows stop (stop + p .n) work (omega arith) room zeros same in (
+      rw (← e) (put-zeros (p .n + p .n) stop (p .n) work zeros (omega arith) room same
+          (z ∙ ap (λ (m : ℕ). replicate m 0) (mid-len stop (stop + p .n) work room ∙ left))),
+      mid-len (p .n + p .n) (stop + p .n) given (omega (arith, same-len-mid stop (stop + p .n - stop) work zeros same)) ∙ omega arith,
+      slice-kept 0 (p .n + p .n) stop work given (omega arith) (follows-kept stop (stop + p .n) zeros work given (omega arith) f (omega arith)),
     )

@@ -1,12 +1,11 @@
 -- 01, "Draws from lent random octets" (key making): what stands in the work words while keys are made.
 --
 --   Follows          a list stands from a place up to another, behind what stood before it
---   termsEnd         where the words of the terms end: every term but the constant, behind the first two parts
+--   termsEnd         where the words of the terms end: every term but the constant, behind the first two parts;  termsLength: their octets
 --   wordsX, wordsY   the words of u_x and of u_y: the first two parts;  wordsTerms: those of the terms
 --   HalvesDrawn      u_x and u_y, drawn from the front of the random octets
 --   KeyWords         work words of the exact length with small elements in the first two parts and elements of R_q behind them
---   valueIn          the value of a key at the secret in the work words, in R_q
---   withConstant     a key's octets, with those of minus an element in place of its constant's
+--   withConstant     a key's octets, with those of minus its value at the secret in the work words in place of its constant's
 --   publicIn         the public key's octets, of the terms and the secret in the work words;  keysIn: both keys
 --   Writes           both keys are written, of what stood in the work words, and the work words are zero
 -- Assumes nothing.
@@ -18,8 +17,8 @@ use lib.ListN.{length, take, drop}
 use lib.Seq.{slice}
 use Rattle.definitions.specs.Sequences.{tabulate}
 use Rattle.definitions.specs.Refusals.{accepted}
-use Rattle.definitions.specs.Parameters.{Parameters, qlen, monomialCount, smallLength, publicLength, workLength}
-use Rattle.definitions.specs.Ring.{Element, elementOf}
+use Rattle.definitions.specs.Parameters.{Parameters, qlen, monomialCount, smallLength}
+use Rattle.definitions.specs.Ring.{elementOf}
 use Rattle.definitions.specs.Monomials.{value}
 use Rattle.definitions.specs.Octets.{encoded, coefficientsFit}
 use Rattle.definitions.specs.Draws.{secretDrawn}
@@ -33,6 +32,9 @@ Follows at stop new old given = take stop given ≡ take at old ++ new
 
 abbrev pub termsEnd : Parameters → ℕ
 termsEnd p = p .n + p .n + (monomialCount (p .dx) - 1) * p .n
+
+abbrev pub termsLength : Parameters → ℕ
+termsLength p = (monomialCount (p .dx) - 1) * p .n * qlen (p .q)
 
 abbrev pub wordsX : Parameters → List ℕ → List ℕ
 wordsX p = slice 0 (p .n)
@@ -49,17 +51,16 @@ pub record HalvesDrawn (p : Parameters) (random work : List ℕ) : Type 0 where
 
 pub record KeyWords (p : Parameters) (work : List ℕ) : Type 0 where
   pub set : AcceptedSet p
-  pub sized : length work ≡ workLength p
+  pub sized : length work ≡ 8 * p .n
   pub x : InSmallRing p (wordsX p work)
   pub y : InSmallRing p (wordsY p work)
   pub terms : coefficientsFit (p .q) (wordsTerms p work) ≡ true
 
-abbrev pub valueIn : Parameters → List ℕ → List ℕ → Element
-valueIn p public work k = value (p .n) (p .dx) (polynomialFrom p public) (part work 0) (part work (p .n)) k % p .q
-
-abbrev pub withConstant : Parameters → Element → List ℕ → List ℕ
-withConstant p v public =
-    take (publicLength p - p .n * qlen (p .q)) public ++ encoded (qlen (p .q)) (tabulate (p .n) (λ k. (p .q - v k) % p .q))
+abbrev pub withConstant : Parameters → List ℕ → List ℕ → List ℕ
+withConstant p public work =
+    take (termsLength p) public
+    ++ encoded (qlen (p .q))
+    (tabulate (p .n) (λ k. (p .q - value (p .n) (p .dx) (polynomialFrom p public) (part work 0) (part work (p .n)) k % p .q) % p .q))
 
 abbrev pub publicIn : Parameters → List ℕ → List ℕ
 publicIn p work =

@@ -10,7 +10,7 @@ ghost use mathlib.Core.List.{_++_};
 ghost use Prim.Native.Nat.{_+_, _*_, _^_, _≤_, _<_};
 ghost use lib.ListN.{length, take, drop, replicate};
 ghost use lib.Seq.{slice};
-ghost use Rattle.definitions.specs.Parameters.{smallBits, qlen, monomialCount, smallLength, secretLength, publicLength, workLength};
+ghost use Rattle.definitions.specs.Parameters.{smallBits, qlen, monomialCount, smallLength, secretLength};
 ghost use Rattle.definitions.specs.Ring.{InRing};
 ghost use Rattle.definitions.specs.Octets.{encoded, packed};
 ghost use Rattle.definitions.specs.Draws.{secretDrawn};
@@ -20,7 +20,7 @@ ghost use Rattle.definitions.specs.Demand3.{AcceptedSet, InSmallRing, secretOf}
 ghost use Rattle.parameters.specs.Answers.{setFrom};
 ghost use Rattle.draws.specs.Runs.{said, drawnAnswer};
 ghost use Rattle.ring.specs.Work.{part};
-ghost use Rattle.key_generation.specs.Keys.{Follows, termsEnd, wordsX, wordsY, wordsTerms, HalvesDrawn, KeyWords, valueIn, withConstant, publicIn, Writes};
+ghost use Rattle.key_generation.specs.Keys.{Follows, termsEnd, termsLength, wordsX, wordsY, wordsTerms, HalvesDrawn, KeyWords, withConstant, publicIn, Writes};
 use draws::Run;
 use parameters::Parameters;
 use parameters::refusals;
@@ -36,7 +36,7 @@ fn draw_half(p: Parameters, random: &[u8], start: usize, work: &mut [u32], at: u
 
 // u_x and u_y, into the first two parts of the work words.
 fn draw_halves(p: Parameters, random: &[u8], work: &mut [u32])
-    requires { ⌜ (secretLength (setFrom p) ≤ length (now random)) × (length (now work) ≡ workLength (setFrom p)) ⌝ }
+    requires { ⌜ (smallLength (setFrom p) + smallLength (setFrom p) ≤ length (now random)) × (length (now work) ≡ 8 * p .n) ⌝ }
     ensures { λ _. ⌜ HalvesDrawn (setFrom p) (before random) (after work) ⌝ }
 {
     draw_half(p, random, 0, work, 0);
@@ -46,7 +46,7 @@ fn draw_halves(p: Parameters, random: &[u8], work: &mut [u32])
 // Where the words of the terms end: all terms but the constant, behind the first two parts.
 fn terms_end(p: Parameters) -> usize
     requires { ⌜ AcceptedSet (setFrom p) ⌝ }
-    ensures { λ r. ⌜ r ≡ termsEnd (setFrom p) ⌝ }
+    ensures { λ r. ⌜ (r ≡ termsEnd (setFrom p)) × (r + p .n ≤ 8 * p .n) ⌝ }
 {
     let n = p.n as usize;
     n + n + (lengths::monomial_count(p.dx) - 1) * n
@@ -54,7 +54,7 @@ fn terms_end(p: Parameters) -> usize
 
 // The elements of every term but the constant, from the octets after the secret's, behind the first two parts of the work words.
 fn draw_terms(p: Parameters, random: &[u8], work: &mut [u32]) -> Run
-    requires { ⌜ AcceptedSet (setFrom p) × (secretLength (setFrom p) ≤ length (now random)) × (length (now work) ≡ workLength (setFrom p)) ⌝ }
+    requires { ⌜ AcceptedSet (setFrom p) × (secretLength (setFrom p) ≤ length (now random)) × (length (now work) ≡ 8 * p .n) ⌝ }
     ensures { λ r. ⌜ said r (wordsTerms (setFrom p) (after work)) ≡ drawnAnswer (keyDraws (setFrom p) (before random)) ⌝ }
     ensures { λ _. ⌜ take (p .n + p .n) (after work) ≡ take (p .n + p .n) (before work) ⌝ }
 {
@@ -76,7 +76,7 @@ fn write_half(p: Parameters, work: &[u32], at: usize, secret: &mut [u8], to: usi
 
 // The secret's octets.
 fn write_secret(p: Parameters, secret: &mut [u8], work: &[u32])
-    requires { ⌜ KeyWords (setFrom p) (now work) × (length (now secret) ≡ secretLength (setFrom p)) ⌝ }
+    requires { ⌜ KeyWords (setFrom p) (now work) × (length (now secret) ≡ smallLength (setFrom p) + smallLength (setFrom p)) ⌝ }
     ensures { λ _. ⌜ after secret ≡ secretOf (setFrom p) (wordsX (setFrom p) (before work)) (wordsY (setFrom p) (before work)) ⌝ }
 {
     write_half(p, work, 0, secret, 0);
@@ -85,7 +85,7 @@ fn write_secret(p: Parameters, secret: &mut [u8], work: &[u32])
 
 // The octets of the terms, and of 0 for the constant.
 fn write_terms(p: Parameters, public: &mut [u8], work: &mut [u32])
-    requires { ⌜ AcceptedSet (setFrom p) × (length (now public) ≡ publicLength (setFrom p)) × (length (now work) ≡ workLength (setFrom p)) ⌝ }
+    requires { ⌜ AcceptedSet (setFrom p) × (length (now public) ≡ termsLength (setFrom p) + p .n * qlen (p .q)) × (length (now work) ≡ 8 * p .n) ⌝ }
     ensures { λ _. ⌜ after public ≡ encoded (qlen (p .q)) (wordsTerms (setFrom p) (before work) ++ replicate (p .n) 0) ⌝ }
     ensures { λ _. ⌜ take (p .n + p .n) (after work) ≡ take (p .n + p .n) (before work) ⌝ }
 {
@@ -97,13 +97,15 @@ fn write_terms(p: Parameters, public: &mut [u8], work: &mut [u32])
     encoding::encode(&work[at..end], lengths::octets_of_coefficient(p.q), public);
 }
 
-// The octets of minus the element in the third part of the work words, over those of the constant.
-fn write_negative(p: Parameters, public: &mut [u8], work: &mut [u32])
-    requires { ⌜ AcceptedSet (setFrom p) × (length (now public) ≡ publicLength (setFrom p)) × (length (now work) ≡ workLength (setFrom p)) × InRing (p .q) (p .n) (part (now work) (2 * p .n)) ⌝ }
-    ensures { λ _. ⌜ after public ≡ withConstant (setFrom p) (part (before work) (2 * p .n)) (before public) ⌝ }
+// The octets of the constant that makes the secret in the first two parts of the work words a zero of a key whose constant is 0.
+fn write_constant(p: Parameters, public: &mut [u8], work: &mut [u32])
+    requires { ⌜ AcceptedSet (setFrom p) × (length (now public) ≡ termsLength (setFrom p) + p .n * qlen (p .q)) × (length (now work) ≡ 8 * p .n) ⌝ }
+    requires { ⌜ (elementsFit (setFrom p) (monomialCount (p .dx)) (now public) ≡ true) × InRing 16 (p .n) (part (now work) 0) × InRing 16 (p .n) (part (now work) (p .n)) ⌝ }
+    ensures { λ _. ⌜ after public ≡ withConstant (setFrom p) (before public) (before work) ⌝ }
 {
     let n = p.n as usize;
     let qlen = lengths::octets_of_coefficient(p.q);
+    values::evaluate(public, p.dx as usize, n, qlen, p.q, work);
     let at = 2 * n;
     let stop = at + n;
     ring::negate(work, at, n, p.q);
@@ -111,20 +113,9 @@ fn write_negative(p: Parameters, public: &mut [u8], work: &mut [u32])
     encoding::encode(&work[at..stop], qlen, &mut public[from..]);
 }
 
-// The octets of the constant that makes the secret in the first two parts of the work words a zero of a key whose constant is 0.
-fn write_constant(p: Parameters, public: &mut [u8], work: &mut [u32])
-    requires { ⌜ AcceptedSet (setFrom p) × (length (now public) ≡ publicLength (setFrom p)) × (length (now work) ≡ workLength (setFrom p)) ⌝ }
-    requires { ⌜ (elementsFit (setFrom p) (monomialCount (p .dx)) (now public) ≡ true) × InRing 16 (p .n) (part (now work) 0) × InRing 16 (p .n) (part (now work) (p .n)) ⌝ }
-    ensures { λ _. ⌜ after public ≡ withConstant (setFrom p) (valueIn (setFrom p) (before public) (before work)) (before public) ⌝ }
-{
-    let qlen = lengths::octets_of_coefficient(p.q);
-    values::evaluate(public, p.dx as usize, p.n as usize, qlen, p.q, work);
-    write_negative(p, public, work);
-}
-
 // The public key's octets.
 fn write_public(p: Parameters, public: &mut [u8], work: &mut [u32])
-    requires { ⌜ KeyWords (setFrom p) (now work) × (length (now public) ≡ publicLength (setFrom p)) ⌝ }
+    requires { ⌜ KeyWords (setFrom p) (now work) × (length (now public) ≡ termsLength (setFrom p) + p .n * qlen (p .q)) ⌝ }
     ensures { λ _. ⌜ after public ≡ publicIn (setFrom p) (before work) ⌝ }
 {
     write_terms(p, public, work);
@@ -140,7 +131,7 @@ fn keygen_drawn(
     work: &mut [u32],
     used: &mut u64,
 ) -> u32
-    requires { ⌜ KeyWords (setFrom p) (now work) × (length (now secret) ≡ secretLength (setFrom p)) × (length (now public) ≡ publicLength (setFrom p)) × (secretLength (setFrom p) + qlen (p .q) * groups < 2 ^ 64) ⌝ }
+    requires { ⌜ KeyWords (setFrom p) (now work) × (length (now secret) ≡ smallLength (setFrom p) + smallLength (setFrom p)) × (length (now public) ≡ termsLength (setFrom p) + p .n * qlen (p .q)) × (secretLength (setFrom p) + qlen (p .q) * groups < 2 ^ 64) ⌝ }
     ensures { λ r. ⌜ Writes (setFrom p) groups secret public work used r ⌝ }
 {
     write_secret(p, secret, work);

@@ -1,14 +1,10 @@
 -- `draw_terms` is right because the run is lent just the words of the terms, behind those of u_x and u_y.
 -- Assumes nothing.
-use Prim.Native.Nat.{_+_, _≤_}
 use native.Mathlib.Omega.{arith}
-use mathlib.Core.Path.{_≡_}
-use lib.ListN.{length}
 use borrow.Author.Needs.{needs}
-use Rattle.definitions.specs.Parameters.{workLength}
 use Rattle.definitions.proofs.Parameters.{Accepted, accepted-set, modulus-positive}
 use Rattle.parameters.specs.Answers.{setFrom}
-use Rattle.key_generation.proofs.Words.{termsEnd-room, terms-drawn}
+use Rattle.key_generation.proofs.Words.{terms-drawn}
 use Rattle.key_generation.proofs.draw_terms.Statement.{statement}
 use Rattle.key_generation.proofs.draw_terms.Tie as tie
 
@@ -20,14 +16,6 @@ ended c = c .before
 
 set : (c : tie.Start) → Accepted (setFrom (c .args .p))
 set c = accepted-set _ (c .pre .0)
-
--- the words of the terms lie inside the work words
-inside : (c : tie.After-terms-end) → c .terms-end .result ≤ length (start c .args .work .now)
-unfolding workLength
-inside c = omega (arith, termsEnd-room _ (set (start c)), c .terms-end .ensures, start c .pre .2)
-
-part-draw-below-end : tie.Need-part-draw-below-end
-part-draw-below-end c = omega (arith, inside (ended c))
 
 draw-below-requires : tie.Need-draw-below-requires
 draw-below-requires c κs =
@@ -41,7 +29,7 @@ returns c =
     let l = c .before .before .before .before in
     let a = start (ended l) .args in
     terms-drawn (setFrom (a .p)) (a .random .now) (a .work .now) (run .last .1 .1 .1 .0) (run .result) (l .secret-length .ensures)
-    (ended l .terms-end .ensures) (inside (ended l)) (run .kept .1 .1 .1 .0) (run .ensures)
+    (ended l .terms-end .ensures .0) (omega (arith, start (ended l) .pre .2, ended l .terms-end .ensures .1)) (run .kept .1 .1 .1 .0) (run .ensures)
 
 pub draw-terms-spec : {M : Type 1} → statement M
 draw-terms-spec =
@@ -54,7 +42,7 @@ draw-terms-spec =
     (λ c. search needs)
     (λ c. search needs)
     (λ c. search needs)
-    part-draw-below-end
+    (λ c. search needs)
     draw-below-requires
     (λ c. search needs)
     returns)

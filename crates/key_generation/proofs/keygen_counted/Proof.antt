@@ -1,18 +1,20 @@
 -- `keygen_counted` is right because what it refuses leaves the outputs as they were, and all is drawn where it writes them.
 -- Assumes nothing.
-use Prim.Native.Nat.{ℕ, _*_}
+use Prim.Native.Nat.{ℕ, _+_, _*_}
 use native.Mathlib.Omega.{arith}
 use mathlib.Core.Path.{_≡_, sym, ap, _∙_}
 use mathlib.Core.Bool.{true}
 use lib.ListN.{length, replicate}
 use borrow.Author.Needs.{needs}
-use Rattle.definitions.specs.Parameters.{qlen, secretLength, publicLength, workLength}
+use Rattle.definitions.specs.Parameters.{qlen, smallLength, secretLength, workLength}
 use Rattle.definitions.specs.Draws.{Drawn}
 use Rattle.definitions.specs.Calls.{keyDraws}
 use Rattle.definitions.proofs.Calls.{keysExact-told}
+use Rattle.definitions.proofs.Parameters.{secretLength-halves}
 use Rattle.parameters.specs.Answers.{setFrom}
 use Rattle.draws.proofs.Runs.{said-complete, said-exhausted}
-use Rattle.key_generation.specs.Keys.{wordsTerms, HalvesDrawn}
+use Rattle.key_generation.specs.Keys.{termsLength, wordsTerms, HalvesDrawn}
+use Rattle.key_generation.proofs.Constant.{publicLength-front}
 use Rattle.key_generation.proofs.Words.{halves-kept, key-words, used-room}
 use Rattle.key_generation.proofs.Returns.{keygen-exhausted, keygen-written}
 use Rattle.key_generation.proofs.keygen_counted.Statement.{statement}
@@ -28,16 +30,21 @@ abbrev drawn : tie.After-known-told → tie.After-draw-terms
 drawn c = c .before .before .before .before .before
 
 exact : (c : tie.Start)
-    → (length (c .args .secret .now) ≡ secretLength (setFrom (c .args .p)))
-    × (length (c .args .public .now) ≡ publicLength (setFrom (c .args .p))) × (length (c .args .work .now) ≡ workLength (setFrom (c .args .p)))
-exact c = keysExact-told (setFrom (c .args .p)) (c .pre .1)
+    → (let p = setFrom (c .args .p) in
+    (length (c .args .secret .now) ≡ smallLength p + smallLength p)
+    × (length (c .args .public .now) ≡ termsLength p + p .n * qlen (p .q)) × (length (c .args .work .now) ≡ 8 * p .n))
+unfolding secretLength workLength
+exact c =
+    let p = setFrom (c .args .p) in
+    let told = keysExact-told p (c .pre .1) in
+    (told .0, told .1 ∙ publicLength-front p, told .2)
 
 -- the work words keep their length over both draws
 as-long : (c : tie.After-draw-terms) → length (c .draw-terms .last .1 .1 .0) ≡ length (start (halves c) .args .work .now)
 as-long c = c .draw-terms .kept .1 .1 .0 ∙ halves c .draw-halves .kept .1 .1 .0
 
 draw-halves-requires : tie.Need-draw-halves-requires
-draw-halves-requires c κs = let s = c .before .before .before .before .before in (s .pre .2, exact s .2)
+draw-halves-requires c κs = let s = c .before .before .before .before .before in (rw (← secretLength-halves (setFrom (s .args .p))) (s .pre .2), exact s .2)
 
 draw-terms-requires : tie.Need-draw-terms-requires
 draw-terms-requires c κs =
@@ -71,8 +78,7 @@ keygen-drawn-requires c κs =
     let k = c .before .before .before .before in
     let d = drawn k in
     let s = start (halves d) in
-    let p = setFrom (s .args .p) in
-    (
+    let p = setFrom (s .args .p) in (
       key-words p (s .args .random .now) _ (s .pre .0) (as-long d ∙ exact s .2) (secret d) (ap (λ (x : Drawn). x .values) (sym (terms k))),
       exact s .0,
       exact s .1,

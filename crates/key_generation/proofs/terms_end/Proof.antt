@@ -1,14 +1,13 @@
 -- `terms_end` is right because a key has at most five terms but the constant, so that no word of theirs lies past the work words.
 -- Assumes nothing.
-use Prim.Native.Nat.{_+_, _-_, _*_, _≤_}
-use native.Mathlib.Nat.{mul-le-mul}
+use Prim.Native.Nat.{ℕ, _+_, _-_, _*_, _≤_}
+use native.Mathlib.Nat.{mul-le-mul-right}
 use native.Mathlib.Omega.{arith}
-use mathlib.Core.Path.{_≡_}
+use mathlib.Core.Path.{ap}
 use borrow.Author.Needs.{needs}
 use Rattle.definitions.proofs.Parameters.{Accepted, accepted-set, key-degree-most}
 use Rattle.definitions.proofs.Monomials.{monomialCount-pos}
 use Rattle.parameters.specs.Answers.{setFrom}
-use Rattle.key_generation.specs.Keys.{termsEnd}
 use Rattle.key_generation.proofs.Words.{others-most}
 use Rattle.key_generation.proofs.terms_end.Statement.{statement}
 use Rattle.key_generation.proofs.terms_end.Tie as tie
@@ -19,10 +18,8 @@ start c = c .before .before
 set : (c : tie.Start) → Accepted (setFrom (c .args .p))
 set c = accepted-set _ (c .pre)
 
-most : (c : tie.After-monomial-count) → (c .monomial-count .result - 1) * start c .args .p .n ≤ 5 * 4096
-most c =
-    let few : c .monomial-count .result - 1 ≤ 5 = rw (c .monomial-count .ensures) (others-most _ (set (start c))) in
-    mul-le-mul few (set (start c) .ring-most)
+most : (c : tie.After-monomial-count) → (c .monomial-count .result - 1) * start c .args .p .n ≤ 5 * start c .args .p .n
+most c = mul-le-mul-right _ (rw (c .monomial-count .ensures) (others-most _ (set (start c))))
 
 monomial-count-requires : tie.Need-monomial-count-requires
 monomial-count-requires c κs = omega (arith, key-degree-most _ (set (c .before)))
@@ -37,8 +34,7 @@ add-result-2 : tie.Need-add-result-2
 add-result-2 c = omega (arith, most c, set (start c) .ring-most)
 
 returns : tie.Need-returns
-unfolding termsEnd
-returns c = rw (c .monomial-count .ensures)
+returns c = (ap (λ (m : ℕ). start c .args .p .n + start c .args .p .n + (m - 1) * start c .args .p .n) (c .monomial-count .ensures), omega (arith, most c))
 
 pub terms-end-spec : {M : Type 1} → statement M
 terms-end-spec =

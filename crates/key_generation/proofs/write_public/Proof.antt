@@ -7,7 +7,7 @@ use mathlib.Core.Path.{_≡_, refl, sym, _∙_}
 use lib.ListN.{length}
 use lib.Seq.{length-slice}
 use borrow.Author.Needs.{needs}
-use Rattle.definitions.specs.Parameters.{monomialCount, workLength}
+use Rattle.definitions.specs.Parameters.{monomialCount}
 use Rattle.definitions.proofs.Parameters.{Accepted, accepted-set}
 use Rattle.definitions.proofs.Octets.{AllBelow, coefficientsFit-below}
 use Rattle.parameters.specs.Answers.{setFrom}
@@ -25,7 +25,6 @@ set c = accepted-set _ (c .pre .0 .set)
 
 terms-sized : (c : tie.Start)
     → length (wordsTerms (setFrom (c .args .p)) (c .args .work .now)) ≡ (monomialCount (c .args .p .dx) - 1) * c .args .p .n
-unfolding workLength
 terms-sized c =
     let p = setFrom (c .args .p) in
     length-slice (p .n + p .n) (termsEnd p) (c .args .work .now) (omega (arith, termsEnd-room p (set c), c .pre .0 .sized)) ∙ omega arith
@@ -38,8 +37,7 @@ write-constant-requires c κs =
     let t = c .before .before .before .before .before .before in
     let s = start t in
     let p = setFrom (s .args .p) in
-    let ring = half-ring p (set s) in
-    (
+    let ring = half-ring p (set s) in (
       (s .pre .0 .set, t .write-terms .kept .1 .0 ∙ s .pre .1, t .write-terms .kept .1 .1 .0 ∙ s .pre .0 .sized),
       (
         rw (t .write-terms .ensures .0) (terms-fit p (set s) (wordsTerms p (s .args .work .now)) (terms-sized s) (terms-below s)),

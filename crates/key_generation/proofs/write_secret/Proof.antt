@@ -1,12 +1,10 @@
 -- `write_secret` is right because the octets of u_y are written behind those of u_x, and both are the whole.
 -- Assumes nothing.
-use Prim.Native.Nat.{_+_, _≤_}
 use native.Mathlib.Nat.{zero-add}
 use native.Mathlib.Omega.{arith}
-use mathlib.Core.Path.{_≡_, _∙_}
-use lib.ListN.{length}
+use mathlib.Core.Path.{_∙_}
 use borrow.Author.Needs.{needs}
-use Rattle.definitions.specs.Parameters.{smallLength, secretLength, workLength}
+use Rattle.definitions.specs.Parameters.{smallLength}
 use Rattle.parameters.specs.Answers.{setFrom}
 use Rattle.key_generation.proofs.Parts.{follows-twice}
 use Rattle.key_generation.proofs.write_secret.Statement.{statement}
@@ -18,23 +16,10 @@ start c = c .before .before .before .before
 abbrev first : tie.After-small-length → tie.After-write-half
 first c = c .before .before .before .before .before
 
-octets : (c : tie.Start) → length (c .args .secret .now) ≡ smallLength (setFrom (c .args .p)) + smallLength (setFrom (c .args .p))
-unfolding secretLength
-octets c = c .pre .1
-
-words : (c : tie.Start) → c .args .p .n + c .args .p .n ≤ length (c .args .work .now)
-unfolding workLength
-words c = omega (arith, c .pre .0 .sized)
-
 write-half-requires : tie.Need-write-half-requires
 write-half-requires c κs =
     let s = c .before .before .before in
-    (s .pre .0 .set, omega (arith, words s), rw (zero-add (s .args .p .n)) (s .pre .0 .x), omega (arith, octets s))
-
-write-half-requires-2 : tie.Need-write-half-requires-2
-write-half-requires-2 c κs =
-    let s = start (first c) in
-    (s .pre .0 .set, words s, s .pre .0 .y, omega (arith, octets s, c .small-length .ensures, first c .write-half .kept .1 .1 .1 .0))
+    (s .pre .0 .set, omega (arith, s .pre .0 .sized), rw (zero-add (s .args .p .n)) (s .pre .0 .x), omega (arith, s .pre .1))
 
 returns : tie.Need-returns
 returns c =
@@ -43,7 +28,7 @@ returns c =
     let x = first l .write-half in
     let y = c .before .before .write-half2 in
     follows-twice (smallLength (setFrom (s .args .p))) (s .args .secret .now) _ _ _ _ (rw (zero-add (s .args .p .n)) at (x .ensures))
-    (rw (l .small-length .ensures) at (y .ensures)) (y .kept .1 .1 .1 .0 ∙ x .kept .1 .1 .1 .0 ∙ octets s)
+    (rw (l .small-length .ensures) at (y .ensures)) (y .kept .1 .1 .1 .0 ∙ x .kept .1 .1 .1 .0 ∙ s .pre .1)
 
 pub write-secret-spec : {M : Type 1} → statement M
 write-secret-spec =
@@ -52,6 +37,6 @@ write-secret-spec =
     write-half-requires
     (λ c. search needs)
     (λ c κs. search needs)
-    write-half-requires-2
+    (λ c κs. search needs)
     (λ c. search needs)
     returns)
