@@ -18,23 +18,8 @@ Inv-loop words b l bits₀ m₀ bits m = (m ≤ length words) × (ltb bits (2 ^ 
 abbrev μ-loop : tie.MeasureT-loop
 μ-loop words b l bits₀ m₀ bits m = length words - m
 
-shl-l : tie.Need-shl-l Inv-loop μ-loop
-shl-l c = omega arith
-
 loop-holds : tie.Need-loop-holds Inv-loop μ-loop
 loop-holds c = (omega arith, bits-none (c .args .b))
-
-mul-bits : tie.Need-mul-bits Inv-loop μ-loop
-mul-bits c = omega arith
-
-shared-slice-read-bits : tie.Need-shared-slice-read-bits Inv-loop μ-loop
-shared-slice-read-bits c = omega arith
-
-add-m : tie.Need-add-m Inv-loop μ-loop
-add-m c = omega arith
-
-loop-less : tie.Need-loop-less Inv-loop μ-loop
-loop-less c = omega arith
 
 loop-again : tie.Need-loop-again Inv-loop μ-loop
 loop-again c =
@@ -60,12 +45,12 @@ all-small-spec =
     (tie.spec
     Inv-loop
     μ-loop
-    shl-l
+    (λ c. omega arith)
     loop-holds
-    mul-bits
-    shared-slice-read-bits
-    add-m
-    loop-less
+    (λ c. omega arith)
+    (λ c. omega arith)
+    (λ c. omega arith)
+    (λ c. omega arith)
     loop-again
     returns
     returns-2)

@@ -30,12 +30,6 @@ mul-loop c = record { fits = lt-of-le-of-lt (c .loop .inv .0) (omega arith) }
 sub-loop : tie.Need-sub-loop Inv-loop μ-loop
 sub-loop c = c .loop .inv .0
 
-mul-loop-2 : tie.Need-mul-loop-2 Inv-loop μ-loop
-mul-loop-2 c = omega arith
-
-add-loop : tie.Need-add-loop Inv-loop μ-loop
-add-loop c = omega arith
-
 -- four octets at each of 64 places
 room : (c : tie.In-loop Inv-loop μ-loop)
     → (c .before .loop .m + 63) * c .before .before .before .args .qlen + 4 ≤ length (c .before .before .before .args .octets .now)
@@ -50,12 +44,6 @@ few c = omega (arith, more c, mul-le-mul-left (c .before .loop .m + 64) (c .befo
 
 several-at-requires : tie.Need-several-at-requires Inv-loop μ-loop
 several-at-requires c κs = let s = c .before .before .before in (s .pre .0, s .pre .1, room c)
-
-enum-told : tie.Need-enum-told Inv-loop μ-loop
-enum-told c = search needs
-
-enum-told-2 : tie.Need-enum-told-2 Inv-loop μ-loop
-enum-told-2 c = search needs
 
 returns : tie.Need-returns Inv-loop μ-loop
 returns c =
@@ -96,11 +84,11 @@ judge-by-spec =
     loop-holds
     mul-loop
     sub-loop
-    mul-loop-2
-    add-loop
+    (λ c. omega arith)
+    (λ c. omega arith)
     several-at-requires
-    enum-told
-    enum-told-2
+    (λ c. search needs)
+    (λ c. search needs)
     returns
     add-m
     loop-less

@@ -19,9 +19,6 @@ Inv-loop octets from qlen q count m₀ m = (m ≤ count) × (fitNumber q (decode
 abbrev μ-loop : tie.MeasureT-loop
 μ-loop octets from qlen q count m₀ m = count - m
 
-div-count : tie.Need-div-count Inv-loop μ-loop
-div-count c = omega arith
-
 loop-holds : tie.Need-loop-holds Inv-loop μ-loop
 loop-holds c = (c .before .pre .2, c .before .pre .3)
 
@@ -29,12 +26,6 @@ coefficient-at-requires : tie.Need-coefficient-at-requires Inv-loop μ-loop
 coefficient-at-requires c κs =
     let a = c .before .before .before .args in
     (omega arith, omega arith, place-end (c .before .loop .m) (a .qlen) (c .loop-test .taken) (div-mul-le-self (length (a .octets .now)) (a .qlen)))
-
-enum-told : tie.Need-enum-told Inv-loop μ-loop
-enum-told c = search needs
-
-enum-told-2 : tie.Need-enum-told-2 Inv-loop μ-loop
-enum-told-2 c = search needs
 
 returns : tie.Need-returns Inv-loop μ-loop
 returns c =
@@ -48,9 +39,6 @@ add-m c =
     let inside : c .before .before .before .before .loop .m < length (a .octets .now) =
     lt-of-lt-of-le (c .before .before .before .loop-test .taken) (div-le-self (length (a .octets .now)) (a .qlen)) in
     omega arith
-
-loop-less : tie.Need-loop-less Inv-loop μ-loop
-loop-less c = omega arith
 
 loop-again : tie.Need-loop-again Inv-loop μ-loop
 loop-again c =
@@ -70,13 +58,13 @@ judge-rest-spec =
     (tie.spec
     Inv-loop
     μ-loop
-    div-count
+    (λ c. omega arith)
     loop-holds
     coefficient-at-requires
-    enum-told
-    enum-told-2
+    (λ c. search needs)
+    (λ c. search needs)
     returns
     add-m
-    loop-less
+    (λ c. omega arith)
     loop-again
     returns-2)

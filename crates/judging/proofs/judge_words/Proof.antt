@@ -20,30 +20,12 @@ abbrev μ-loop : tie.MeasureT-loop
 loop-holds : tie.Need-loop-holds Inv-loop μ-loop
 loop-holds c = (omega arith, fitNumber-nil (c .before .args .q))
 
-sub-loop : tie.Need-sub-loop Inv-loop μ-loop
-sub-loop c = omega arith
-
-several-of-requires : tie.Need-several-of-requires Inv-loop μ-loop
-several-of-requires c κs = omega arith
-
-enum-told : tie.Need-enum-told Inv-loop μ-loop
-enum-told c = search needs
-
-enum-told-2 : tie.Need-enum-told-2 Inv-loop μ-loop
-enum-told-2 c = search needs
-
 returns : tie.Need-returns Inv-loop μ-loop
 returns c =
     let a = c .before .before .before .before .before .before .args in
     let m = c .before .before .before .before .loop .m in
     let eight : fitNumber (a .q) (take 32 (drop m (a .words .now))) ≡ 8 = sym (c .before .before .several-of .ensures) ∙ ap readingsNumber (c .enum-told2 .given .1) in
     sym (fitNumber-take-part (a .q) (a .words .now) m 32 (fitNumber-refused (a .q) _ (λ z. omega (arith, eight, z))))
-
-add-m : tie.Need-add-m Inv-loop μ-loop
-add-m c = omega arith
-
-loop-less : tie.Need-loop-less Inv-loop μ-loop
-loop-less c = omega arith
 
 loop-again : tie.Need-loop-again Inv-loop μ-loop
 loop-again c =
@@ -64,13 +46,13 @@ judge-words-spec =
     Inv-loop
     μ-loop
     loop-holds
-    sub-loop
-    several-of-requires
-    enum-told
-    enum-told-2
+    (λ c. omega arith)
+    (λ c κs. omega arith)
+    (λ c. search needs)
+    (λ c. search needs)
     returns
-    add-m
-    loop-less
+    (λ c. omega arith)
+    (λ c. omega arith)
     loop-again
     judge-words-rest-requires
     returns-2)

@@ -20,32 +20,11 @@ abbrev μ-loop : tie.MeasureT-loop
 loop-holds : tie.Need-loop-holds Inv-loop μ-loop
 loop-holds c = (c .before .pre .0, c .before .pre .1)
 
-mul-bounded : tie.Need-mul-bounded Inv-loop μ-loop
-mul-bounded c = omega arith
-
-shared-slice-read-bounded : tie.Need-shared-slice-read-bounded Inv-loop μ-loop
-shared-slice-read-bounded c = omega arith
-
-bounded-requires : tie.Need-bounded-requires Inv-loop μ-loop
-bounded-requires c κs = search needs
-
-enum-told : tie.Need-enum-told Inv-loop μ-loop
-enum-told c = search needs
-
-enum-told-2 : tie.Need-enum-told-2 Inv-loop μ-loop
-enum-told-2 c = search needs
-
 returns : tie.Need-returns Inv-loop μ-loop
 returns c =
     let a = c .before .before .before .before .before .before .before .args in
     let l = c .before .before .before .before .before .loop in
     sym (fitNumber-take-large (a .q) (a .words .now) (l .m) (omega arith) (sym (c .before .before .bounded .ensures) ∙ ap readingAs (c .enum-told2 .given .1)))
-
-add-m : tie.Need-add-m Inv-loop μ-loop
-add-m c = omega arith
-
-loop-less : tie.Need-loop-less Inv-loop μ-loop
-loop-less c = omega arith
 
 loop-again : tie.Need-loop-again Inv-loop μ-loop
 loop-again c =
@@ -66,13 +45,13 @@ judge-words-rest-spec =
     Inv-loop
     μ-loop
     loop-holds
-    mul-bounded
-    shared-slice-read-bounded
-    bounded-requires
-    enum-told
-    enum-told-2
+    (λ c. omega arith)
+    (λ c. omega arith)
+    (λ c κs. search needs)
+    (λ c. search needs)
+    (λ c. search needs)
     returns
-    add-m
-    loop-less
+    (λ c. omega arith)
+    (λ c. omega arith)
     loop-again
     returns-2)

@@ -35,12 +35,6 @@ wide-number-requires c κs =
     let start = c .before .before .before in
     (start .pre .0, start .pre .1, places-end (start .args .m) (start .args .qlen) _ (start .pre .1) (start .pre .2) (c .before .loop .k) (omega arith))
 
-add-k : tie.Need-add-k Inv-loop μ-loop
-add-k c = omega arith
-
-loop-less : tie.Need-loop-less Inv-loop μ-loop
-loop-less c = omega arith
-
 loop-again : tie.Need-loop-again Inv-loop μ-loop
 loop-again c =
     let a = c .before .before .before .before .before .args in
@@ -80,8 +74,8 @@ several-at-spec =
     add-wide-number
     mul-wide-number
     wide-number-requires
-    add-k
-    loop-less
+    (λ c. omega arith)
+    (λ c. omega arith)
     loop-again
     returns
     returns-2)
