@@ -6,7 +6,8 @@ use mathlib.Core.Logic.{⊎-elim}
 use native.Mathlib.Omega.{arith}
 use Rattle.definitions.specs.Sequences.{tabulate}
 use Rattle.definitions.specs.Octets.{coefficientAt}
-use Rattle.judging.proofs.Laws.{coefficientsFrom, coefficientsFrom-snoc, places-end, places-start, places-sum, largeMark, large-none, large-kept, large-set, large-below, large-large}
+use Rattle.judging.proofs.Laws.{coefficientsFrom, coefficientsFrom-snoc, places-end, places-start, places-sum}
+use Rattle.judging.proofs.Laws.{largeMark, large-none, large-kept, large-set, large-below, large-large}
 use Rattle.judging.proofs.several_at.Statement.{statement}
 use Rattle.judging.proofs.several_at.Tie as tie
 
@@ -22,13 +23,13 @@ loop-holds c = (omega arith, large-none (c .before .args .q))
 
 add-wide-number : tie.Need-add-wide-number Inv-loop μ-loop
 add-wide-number c =
-    let a = c .before .before .before .args in
-    record { fits = places-sum (a .m) (a .qlen) _ (omega arith) (c .before .before .before .pre .2) (c .before .loop .k) (omega arith) (c .before .before .before .pre .0) (omega arith) }
+    let s = c .before .before .before in
+    record { fits = places-sum (s .args .m) (s .args .qlen) _ (omega arith) (s .pre .2) (c .before .loop .k) (omega arith) (s .pre .0) (omega arith) }
 
 mul-wide-number : tie.Need-mul-wide-number Inv-loop μ-loop
 mul-wide-number c =
-    let a = c .before .before .before .args in
-    record { fits = places-start (a .m) (a .qlen) _ (omega arith) (c .before .before .before .pre .2) (c .before .loop .k) (omega arith) (omega arith) }
+    let s = c .before .before .before in
+    record { fits = places-start (s .args .m) (s .args .qlen) _ (omega arith) (s .pre .2) (c .before .loop .k) (omega arith) (omega arith) }
 
 wide-number-requires : tie.Need-wide-number-requires Inv-loop μ-loop
 wide-number-requires c κs =
