@@ -41,14 +41,16 @@ pub fitNumber-refused : (q : ℕ) (xs : List ℕ) → (fitNumber q xs ≡ 0 → 
 unfolding fitNumber
 fitNumber-refused q xs = number-refused (coefficientsFit q xs)
 
-pub fitNumber-below : (q qlen count : ℕ) (octets : List ℕ) → ((m : ℕ) → m < count → coefficientAt qlen octets m < q) → fitNumber q (decoded qlen count octets) ≡ 0
+pub fitNumber-below : (q qlen count : ℕ) (octets : List ℕ) → ((m : ℕ) → m < count → coefficientAt qlen octets m < q)
+    → fitNumber q (decoded qlen count octets) ≡ 0
 unfolding fitNumber
 fitNumber-below q qlen count octets h =
     sym (number-zero (coefficientsFit-true q (decoded qlen count octets) (λ m l.
     let inside : m < count = rw (length-decoded qlen count octets) at l in
     rw (getD-decoded qlen count octets inside) (h m inside))))
 
-module _ (p : Parameters) (set : Accepted p) (elements : ℕ) (octets : List ℕ) (exact : length octets ≡ elementsLength p elements) {len r : ℕ} (e : len ≡ qlen (p .q))
+module _ (p : Parameters) (set : Accepted p) (elements : ℕ) (octets : List ℕ)
+    (exact : length octets ≡ elementsLength p elements) {len r : ℕ} (e : len ≡ qlen (p .q))
     (number : r ≡ fitNumber (p .q) (decoded len (length octets / len) octets))
   where
     pub judged : r ≡ fitNumber (p .q) (decodedElements p elements octets)

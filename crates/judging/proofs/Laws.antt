@@ -1,8 +1,9 @@
 -- Why judging part by part gives the answer for all: a list fits just where each of its parts does.
 --
 --   coefficientsFit-..       of a list and one more; of two lists end to end
---   fitNumber-..             the answer for some coefficients more that fit; 8 where some part does not fit
---   reading-..               what reading a coefficient tells
+--   fitNumber-..             the answers
+--   reading-.., readings-..  what reading a coefficient tells; several
+--   octets-.., words-..      some coefficients more that fit; 8 where some do not
 --   coefficientsFrom, part-..  several coefficients of octets; of words
 --   places-..                where the octets of several coefficients lie
 --   large-..                 the mark that a loop over several keeps: 0 where all so far fit, otherwise 1
@@ -18,7 +19,7 @@ use native.Mathlib.Decide.{decLt}
 use native.Mathlib.Omega.{arith}
 use lib.Dec.{ltb}
 use lib.ListN.{length, getD, take, drop, length-append, length-drop, take-append-drop, List·getD-append}
-use lib.Seq.{take-suc, getD-drop, take-add, getD-append-seam}
+use lib.Seq.{take-all, take-suc, getD-drop, take-add, getD-append-seam}
 use lib.Pow.{pow-pos}
 use lib.Bits.{bitOr, or-lt, or-add-and, and-le-r, or-comm}
 use borrow.Author.Tests.{lt-ltb, le-ltb}
@@ -27,8 +28,12 @@ use Rattle.definitions.specs.Refusals.{refuse, firstRefusal, accepted, refused,
 use Rattle.definitions.specs.Octets.{coefficientAt, decoded, coefficientsFit}
 use Rattle.definitions.proofs.Sums.{every-cong}
 use Rattle.definitions.proofs.Filling.{tabulate-snoc, tabulate-add}
-use Rattle.judging.specs.Reading.{coefficientAnswer, fitNumber}
-use Rattle.judging.proofs.Judged.{fitNumber-fits}
+use Rattle.judging.specs.Reading.{readingAs, coefficientAnswer, readingsNumber, fitNumber}
+use Rattle.judging.specs.declared.Coefficient.{Coefficient}
+use Rattle.judging.specs.declared.Coefficient.the-variants.{Below, TooLarge}
+use Rattle.judging.specs.declared.Coefficients.{Coefficients}
+use Rattle.judging.specs.declared.Coefficients.the-variants as several
+use Rattle.judging.proofs.Judged.{number-zero, fitNumber-fits, fitNumber-refused}
 
 -- ---- lists that fit
 
@@ -53,55 +58,53 @@ pub coefficientsFit-append : (q : ℕ) (ys xs : List ℕ) → coefficientsFit q 
 coefficientsFit-append q [] xs = rw (append-nil xs, coefficientsFit-none q, and-true (coefficientsFit q xs))
 coefficientsFit-append q (y ∷ ys) xs =
     let first : coefficientsFit q (y ∷ ys) ≡ (ltb y q && coefficientsFit q ys) = coefficientsFit-append q ys (y ∷ []) ∙ rw (coefficientsFit-one q y) in
-    rw (first, ← append-assoc xs (y ∷ []) ys, coefficientsFit-append q ys (xs ++ (y ∷ [])), coefficientsFit-snoc q xs y) (and-assoc (coefficientsFit q xs) (ltb y q) (coefficientsFit q ys))
+    rw (first, ← append-assoc xs (y ∷ []) ys, coefficientsFit-append q ys (xs ++ (y ∷ [])), coefficientsFit-snoc q xs y)
+    (and-assoc (coefficientsFit q xs) (ltb y q) (coefficientsFit q ys))
 
 -- ---- answers
 
-pub fitNumber-zero : (q : ℕ) (xs : List ℕ) → coefficientsFit q xs ≡ true → fitNumber q xs ≡ 0
-unfolding fitNumber firstRefusal
-fitNumber-zero q xs e = rw e
+pub fitNumber-zero : (q : ℕ) (xs : List ℕ) → coefficientsFit q xs ≡ true → 0 ≡ fitNumber q xs
+unfolding fitNumber
+fitNumber-zero q xs e = number-zero e
 
-fitNumber-eight : (q : ℕ) (xs : List ℕ) → coefficientsFit q xs ≡ false → fitNumber q xs ≡ 8
+pub fitNumber-eight : (q : ℕ) (xs : List ℕ) → coefficientsFit q xs ≡ false → 8 ≡ fitNumber q xs
 unfolding fitNumber firstRefusal
 fitNumber-eight q xs e = rw e
 
-pub fitNumber-nil : (q : ℕ) → fitNumber q [] ≡ 0
-fitNumber-nil q = fitNumber-zero q [] (coefficientsFit-none q)
-
 module _ (q : ℕ) (xs ys : List ℕ) where
-  fitNumber-more : fitNumber q xs ≡ 0 → coefficientsFit q ys ≡ true → fitNumber q (xs ++ ys) ≡ 0
-  fitNumber-more e f = fitNumber-zero q (xs ++ ys) (coefficientsFit-append q ys xs ∙ rw (fitNumber-fits q xs e, f))
+  fits-append : coefficientsFit q xs ≡ true → coefficientsFit q ys ≡ true → coefficientsFit q (xs ++ ys) ≡ true
+  fits-append e f = rw (coefficientsFit-append q ys xs, e, f)
 
-  fitNumber-part : (zs : List ℕ) → coefficientsFit q ys ≡ false → fitNumber q (xs ++ (ys ++ zs)) ≡ 8
-  fitNumber-part zs f =
-      fitNumber-eight q (xs ++ (ys ++ zs)) (coefficientsFit-append q (ys ++ zs) xs ∙ rw (coefficientsFit-append q zs ys, f) (and-false (coefficientsFit q xs)))
+  fits-not : (zs : List ℕ) → coefficientsFit q ys ≡ false → 8 ≡ fitNumber q (xs ++ (ys ++ zs))
+  fits-not zs f =
+      fitNumber-eight q (xs ++ (ys ++ zs))
+      (rw (coefficientsFit-append q (ys ++ zs) xs, coefficientsFit-append q zs ys, f) (and-false (coefficientsFit q xs)))
 
 -- ---- what reading tells
 
-module _ (q x : ℕ) where
-  pub reading-value : {v : ℕ} → coefficientAnswer q x ≡ accepted v → v ≡ x
+module _ (q x : ℕ) {r : Coefficient} (e : readingAs r ≡ coefficientAnswer q x) where
+  pub reading-below : {v : ℕ} → r ≡ Below v → (v ≡ x) × (coefficientsFit q (x ∷ []) ≡ true)
   unfolding coefficientAnswer answer firstRefusal
-  reading-value {v} e = go (ltb x q) e
+  reading-below {v} h = rw (coefficientsFit-one q x) (go (ltb x q) (sym (ap readingAs h) ∙ e))
     where
-      go : (t : Bool) → answer [] (refuse 8 (not t) ∷ []) x ≡ accepted v → v ≡ x
-      go true e = cc
-      go false e = cc
+      go : (t : Bool) → accepted v ≡ answer [] (refuse 8 (not t) ∷ []) x → (v ≡ x) × (t ≡ true)
+      go true e = (cc, refl)
+      go false e = (cc, cc)
 
-  pub reading-below : (v : ℕ) → coefficientAnswer q x ≡ accepted v → coefficientsFit q (x ∷ []) ≡ true
+  pub reading-large : r ≡ TooLarge → coefficientsFit q (x ∷ []) ≡ false
   unfolding coefficientAnswer answer firstRefusal
-  reading-below v e = coefficientsFit-one q x ∙ go (ltb x q) e
+  reading-large h = coefficientsFit-one q x ∙ go (ltb x q) (sym (ap readingAs h) ∙ e)
     where
-      go : (t : Bool) → answer [] (refuse 8 (not t) ∷ []) x ≡ accepted v → t ≡ true
-      go true e = refl
-      go false e = cc
-
-  pub reading-large : coefficientAnswer q x ≡ refused 8 → coefficientsFit q (x ∷ []) ≡ false
-  unfolding coefficientAnswer answer firstRefusal
-  reading-large e = coefficientsFit-one q x ∙ go (ltb x q) e
-    where
-      go : (t : Bool) → answer [] (refuse 8 (not t) ∷ []) x ≡ refused 8 → t ≡ false
+      go : (t : Bool) → refused 8 ≡ answer [] (refuse 8 (not t) ∷ []) x → t ≡ false
       go true e = cc
       go false e = refl
+
+module _ (q : ℕ) (xs : List ℕ) {r : Coefficients} (e : readingsNumber r ≡ fitNumber q xs) where
+  pub readings-below : r ≡ several.Below → coefficientsFit q xs ≡ true
+  readings-below h = fitNumber-fits q xs (sym e ∙ ap readingsNumber h)
+
+  pub readings-large : r ≡ several.TooLarge → coefficientsFit q xs ≡ false
+  readings-large h = let eight : fitNumber q xs ≡ 8 = sym e ∙ ap readingsNumber h in fitNumber-refused q xs (λ z. omega (arith, eight, z))
 
 -- ---- coefficients in octets
 
@@ -116,39 +119,28 @@ pub coefficientsFrom-snoc : (qlen : ℕ) (octets : List ℕ) (m k : ℕ)
     → coefficientsFrom qlen octets m (k + 1) ≡ coefficientsFrom qlen octets m k ++ (coefficientAt qlen octets (m + k) ∷ [])
 coefficientsFrom-snoc qlen octets m k = rw (add-one k) (tabulate-snoc k (λ j. coefficientAt qlen octets (m + j)))
 
-pub fitNumber-none : (q qlen : ℕ) (octets : List ℕ) → fitNumber q (decoded qlen 0 octets) ≡ 0
+pub octets-none : (q qlen : ℕ) (octets : List ℕ) → coefficientsFit q (decoded qlen 0 octets) ≡ true
 unfolding decoded tabulate
-fitNumber-none q qlen octets = fitNumber-nil q
+octets-none q qlen octets = coefficientsFit-none q
 
 module _ (q qlen : ℕ) (octets : List ℕ) (m k : ℕ) where
   pub decoded-more : decoded qlen (m + k) octets ≡ decoded qlen m octets ++ coefficientsFrom qlen octets m k
   unfolding decoded
   decoded-more = tabulate-add m k (coefficientAt qlen octets)
 
-  pub fitNumber-decoded-more : fitNumber q (decoded qlen m octets) ≡ 0 → coefficientsFit q (coefficientsFrom qlen octets m k) ≡ true
-      → fitNumber q (decoded qlen (m + k) octets) ≡ 0
-  fitNumber-decoded-more e f = rw decoded-more (fitNumber-more q (decoded qlen m octets) (coefficientsFrom qlen octets m k) e f)
+  pub octets-more : coefficientsFit q (decoded qlen m octets) ≡ true → coefficientsFit q (coefficientsFrom qlen octets m k) ≡ true
+      → coefficientsFit q (decoded qlen (m + k) octets) ≡ true
+  octets-more e f = rw decoded-more (fits-append q (decoded qlen m octets) (coefficientsFrom qlen octets m k) e f)
 
-  pub fitNumber-decoded-part : (count : ℕ) → m + k ≤ count → coefficientsFit q (coefficientsFrom qlen octets m k) ≡ false
-      → fitNumber q (decoded qlen count octets) ≡ 8
+  pub octets-not : {count : ℕ} → m + k ≤ count → coefficientsFit q (coefficientsFrom qlen octets m k) ≡ false → 8 ≡ fitNumber q (decoded qlen count octets)
   unfolding decoded
-  fitNumber-decoded-part count h f =
+  octets-not {count} h f =
       let rest : List ℕ = tabulate (count - (m + k)) (λ j. coefficientAt qlen octets (m + k + j)) in
       let end : count ≡ m + k + (count - (m + k)) = omega arith in
       let parts : decoded qlen count octets ≡ decoded qlen m octets ++ (coefficientsFrom qlen octets m k ++ rest) =
       ap (λ (n : ℕ). tabulate n (coefficientAt qlen octets)) end ∙ tabulate-add (m + k) (count - (m + k)) (coefficientAt qlen octets)
       ∙ rw decoded-more (append-assoc (decoded qlen m octets) (coefficientsFrom qlen octets m k) rest) in
-      rw parts (fitNumber-part q (decoded qlen m octets) (coefficientsFrom qlen octets m k) rest f)
-
-module _ (q qlen : ℕ) (octets : List ℕ) (m : ℕ) where
-  pub fitNumber-decoded-next : {v : ℕ} → coefficientAnswer q (coefficientAt qlen octets m) ≡ accepted v → fitNumber q (decoded qlen m octets) ≡ 0
-      → fitNumber q (decoded qlen (m + 1) octets) ≡ 0
-  fitNumber-decoded-next {v} e z =
-      fitNumber-decoded-more q qlen octets m 1 z (rw (coefficientsFrom-one qlen octets m) (reading-below q (coefficientAt qlen octets m) v e))
-
-  pub fitNumber-decoded-large : (count : ℕ) → m < count → coefficientAnswer q (coefficientAt qlen octets m) ≡ refused 8 → fitNumber q (decoded qlen count octets) ≡ 8
-  fitNumber-decoded-large count h e =
-      fitNumber-decoded-part q qlen octets m 1 count (omega arith) (rw (coefficientsFrom-one qlen octets m) (reading-large q (coefficientAt qlen octets m) e))
+      rw parts (fits-not q (decoded qlen m octets) (coefficientsFrom qlen octets m k) rest f)
 
 -- where the octets of several coefficients lie, each read as four octets
 module _ (m qlen total : ℕ) (few : qlen ≤ 4) (fit : (m + 63) * qlen + 4 ≤ total) where
@@ -170,14 +162,17 @@ module _ (m qlen total : ℕ) (few : qlen ≤ 4) (fit : (m + 63) * qlen + 4 ≤ 
 -- ---- coefficients in words
 
 module _ (q : ℕ) (words : List ℕ) (m k : ℕ) where
-  pub fitNumber-take-more : fitNumber q (take m words) ≡ 0 → coefficientsFit q (take k (drop m words)) ≡ true → fitNumber q (take (m + k) words) ≡ 0
-  fitNumber-take-more e f = rw (take-add m k words) (fitNumber-more q (take m words) (take k (drop m words)) e f)
+  pub words-more : coefficientsFit q (take m words) ≡ true → coefficientsFit q (take k (drop m words)) ≡ true → coefficientsFit q (take (m + k) words) ≡ true
+  words-more e f = rw (take-add m k words) (fits-append q (take m words) (take k (drop m words)) e f)
 
-  pub fitNumber-take-part : coefficientsFit q (take k (drop m words)) ≡ false → fitNumber q words ≡ 8
-  fitNumber-take-part f =
+  pub words-not : coefficientsFit q (take k (drop m words)) ≡ false → 8 ≡ fitNumber q words
+  words-not f =
       let parts : words ≡ take m words ++ (take k (drop m words) ++ drop k (drop m words)) =
       sym (take-append-drop m words) ∙ ap (λ (l : List ℕ). take m words ++ l) (sym (take-append-drop k (drop m words))) in
-      rw parts (fitNumber-part q (take m words) (take k (drop m words)) (drop k (drop m words)) f)
+      rw parts (fits-not q (take m words) (take k (drop m words)) (drop k (drop m words)) f)
+
+pub words-all : (q : ℕ) (words : List ℕ) {m : ℕ} → length words ≤ m → coefficientsFit q (take m words) ≡ true → 0 ≡ fitNumber q words
+words-all q words {m} h e = fitNumber-zero q words (rw (take-all m words h) at e)
 
 pub part-snoc : (words : List ℕ) (m k : ℕ) → m + k < length words → take (k + 1) (drop m words) ≡ take k (drop m words) ++ (getD words (m + k) 0 ∷ [])
 part-snoc words m k h =
@@ -186,13 +181,6 @@ part-snoc words m k h =
 
 pub part-one : (words : List ℕ) (m : ℕ) → m < length words → take 1 (drop m words) ≡ getD words m 0 ∷ []
 part-one words m h = let e : take (0 + 1) (drop m words) ≡ getD words (m + 0) 0 ∷ [] = part-snoc words m 0 (omega arith) in rw (add-zero m) at e
-
-module _ (q : ℕ) (words : List ℕ) (m : ℕ) (h : m < length words) where
-  pub fitNumber-take-next : {v : ℕ} → coefficientAnswer q (getD words m 0) ≡ accepted v → fitNumber q (take m words) ≡ 0 → fitNumber q (take (m + 1) words) ≡ 0
-  fitNumber-take-next {v} e z = fitNumber-take-more q words m 1 z (rw (part-one words m h) (reading-below q (getD words m 0) v e))
-
-  pub fitNumber-take-large : coefficientAnswer q (getD words m 0) ≡ refused 8 → fitNumber q words ≡ 8
-  fitNumber-take-large e = fitNumber-take-part q words m 1 (rw (part-one words m h) (reading-large q (getD words m 0) e))
 
 -- ---- several at once
 
@@ -215,14 +203,14 @@ module _ (q : ℕ) (xs : List ℕ) where
   large-set x h = rw (coefficientsFit-snoc q xs x, le-ltb x q h, and-false (coefficientsFit q xs))
 
   pub large-below : {mark : ℕ} → mark ≡ largeMark q xs → mark ≡ 0 → 0 ≡ fitNumber q xs
-  large-below e z = sym (fitNumber-zero q xs (go (coefficientsFit q xs) (sym e ∙ z)))
+  large-below e z = fitNumber-zero q xs (go (coefficientsFit q xs) (sym e ∙ z))
     where
       go : (t : Bool) → markOf t ≡ 0 → t ≡ true
       go true e = refl
       go false e = let z : ⊥ = omega (arith, e) in absurd z
 
   pub large-large : {mark : ℕ} → mark ≡ largeMark q xs → (mark ≡ 0 → ⊥) → 8 ≡ fitNumber q xs
-  large-large e z = sym (fitNumber-eight q xs (go (coefficientsFit q xs) (λ f. z (e ∙ f))))
+  large-large e z = fitNumber-eight q xs (go (coefficientsFit q xs) (λ f. z (e ∙ f)))
     where
       go : (t : Bool) → (markOf t ≡ 0 → ⊥) → t ≡ false
       go true e = absurd (e refl)
@@ -257,7 +245,7 @@ bits-step b bits words m h e =
 -- what the bits tell of the words
 module _ (q bits : ℕ) (xs : List ℕ) (e : ltb bits q ≡ coefficientsFit q xs) where
   pub bits-below : bits < q → 0 ≡ fitNumber q xs
-  bits-below h = sym (fitNumber-zero q xs (sym e ∙ lt-ltb bits q h))
+  bits-below h = fitNumber-zero q xs (sym e ∙ lt-ltb bits q h)
 
   pub bits-large : q ≤ bits → 8 ≡ fitNumber q xs
-  bits-large h = sym (fitNumber-eight q xs (sym e ∙ le-ltb bits q h))
+  bits-large h = fitNumber-eight q xs (sym e ∙ le-ltb bits q h)

@@ -5,10 +5,11 @@
 // written once, with qlen as a variable, and called with a constant, so that the compiler makes a loop for each qlen.
 use parameters::refusals;
 ghost use mathlib.Core.Path.{_≡_};
+ghost use mathlib.Core.Bool.{true};
 ghost use Prim.Native.Nat.{_+_, _*_, _/_, _^_, _≤_};
 ghost use lib.ListN.{length, take, drop};
 ghost use Rattle.definitions.specs.Sequences.{tabulate};
-ghost use Rattle.definitions.specs.Octets.{coefficientAt, decoded};
+ghost use Rattle.definitions.specs.Octets.{coefficientAt, decoded, coefficientsFit};
 ghost use Rattle.judging.specs.Reading.{readingAs, coefficientAnswer, readingsNumber, fitNumber};
 
 // What reading a coefficient finds: its value, or that it is too large.
@@ -64,7 +65,7 @@ fn several_at(octets: &[u8], m: usize, qlen: usize, q: u32) -> Coefficients
 
 // The coefficients from a place on, one by one.
 fn judge_rest(octets: &[u8], from: usize, qlen: usize, q: u32) -> u32
-    requires { ⌜ (1 ≤ qlen) × (qlen ≤ 4) × (from ≤ length (now octets) / qlen) × (fitNumber q (decoded qlen from (now octets)) ≡ 0) ⌝ }
+    requires { ⌜ (1 ≤ qlen) × (qlen ≤ 4) × (from ≤ length (now octets) / qlen) × (coefficientsFit q (decoded qlen from (now octets)) ≡ true) ⌝ }
     ensures { λ r. ⌜ r ≡ fitNumber q (decoded qlen (length (now (octets .entry)) / qlen) (now (octets .entry))) ⌝ }
 {
     let count = octets.len() / qlen;
@@ -166,7 +167,7 @@ fn several_of(words: &[u32], m: usize, q: u32) -> Coefficients
 
 // The words from a place on, one by one.
 fn judge_words_rest(words: &[u32], from: usize, q: u32) -> u32
-    requires { ⌜ (from ≤ length (now words)) × (fitNumber q (take from (now words)) ≡ 0) ⌝ }
+    requires { ⌜ (from ≤ length (now words)) × (coefficientsFit q (take from (now words)) ≡ true) ⌝ }
     ensures { λ r. ⌜ r ≡ fitNumber q (now (words .entry)) ⌝ }
 {
     let mut m = from;

@@ -63,7 +63,8 @@ horner-stepped n q u h zero ha hv hx k l =
     hx k l ∙ ap (λ (y : ℕ). y % q) (sym (ap (λ (y : ℕ). y + h 0 k) (conv-zero-left n u (λ i s. refl) k) ∙ zero-add (h 0 k)))
 horner-stepped n q u h (suc c) ha hv hx k l =
     cong-add
-    (conv-cong-modulo n {b = horner n u h (suc c)} (λ i s. cong-trans (cong-of-eq (ha (omega arith) i s)) (cong-mod q (horner n u h (suc c) i))) (λ i s. cong-of-eq (hv i s)) k)
+    (conv-cong-modulo n {b = horner n u h (suc c)}
+    (λ i s. cong-trans (cong-of-eq (ha (omega arith) i s)) (cong-mod q (horner n u h (suc c) i))) (λ i s. cong-of-eq (hv i s)) k)
     (cong-trans (cong-of-eq (hx k l)) (cong-mod q (h (suc c) k))) .same
 
 -- ---- the places of a row's terms
@@ -160,7 +161,8 @@ module _ (n d : ℕ) (f : Polynomial) (ux uy : Element) where
       ∙ sum-cong (suc d) (λ j m.
       let e : suc d - suc j ≡ d - j = omega arith in
       ap (λ (t : ℕ). conv n (rowOf n d f ux t) (power n uy j) k) e
-      ∙ conv-cong n {a = rowOf n d f ux (d - j)} {b = λ i. sum (suc (d - j)) (λ s. conv n (f (placeOf d s j)) (power n ux s) i)} (λ i s. row-sum j (omega arith) s) (λ i s. refl) k
+      ∙ conv-cong n {a = rowOf n d f ux (d - j)} {b = λ i. sum (suc (d - j)) (λ s. conv n (f (placeOf d s j)) (power n ux s) i)}
+      (λ i s. row-sum j (omega arith) s) (λ i s. refl) k
       ∙ conv-sum-left n (suc (d - j)) (λ s. conv n (f (placeOf d s j)) (power n ux s)) (power n uy j) k
       ∙ sum-cong (suc (d - j)) (λ i s. conv-assoc n (f (placeOf d i j)) (power n ux i) (power n uy j) k))
       ∙ sym (value-rows k)

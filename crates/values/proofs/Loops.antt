@@ -91,7 +91,12 @@ module _ {n q count at factor next : ℕ} {old mid : List ℕ} (room : next + n 
   step-placed {new} apart e =
       let copied = placed-written {n = n} {at = at} {f = part mid next} mid {new = new} (omega (arith, added-length)) e in
       record {
-        placed = λ k l. copied .placed k l ∙ ⊎-elim (λ w. placed-written old room (w .1) .placed k l ∙ stepped-some n q count _ _ _ (w .0) k) (λ w. rw (w .1) (stepped-none n q count _ _ _ (w .0) k)) (added .came);
+        placed = λ k l.
+            copied .placed k l
+            ∙ ⊎-elim
+            (λ w. placed-written old room (w .1) .placed k l ∙ stepped-some n q count _ _ _ (w .0) k)
+            (λ w. rw (w .1) (stepped-none n q count _ _ _ (w .0) k))
+            (added .came);
         before = λ i l. copied .before i l ∙ ⊎-elim (λ w. placed-written old room (w .1) .before i (omega arith)) (λ w. rw (w .1)) (added .came);
         as-long = copied .as-long ∙ added-length;
       }
@@ -109,10 +114,12 @@ module _ {n q at factor : ℕ} {h : ℕ → Element} {fits : ℕ → Bool} {old 
   pub hornerAt-none : HornerAt n q at factor h fits old 0 old
   hornerAt-none = record { fit = unfold every in refl; held = λ z. let none : ⊥ = omega arith in absurd none; before = λ i l. refl; as-long = refl }
 
-  pub hornerAt-all : {c t : ℕ} {work : List ℕ} → c ≡ suc t → HornerAt n q at factor h fits old c work → Placed n at (λ k. horner n (part old factor) h (suc t) k % q) old work
+  pub hornerAt-all : {c t : ℕ} {work : List ℕ} → c ≡ suc t → HornerAt n q at factor h fits old c work
+      → Placed n at (λ k. horner n (part old factor) h (suc t) k % q) old work
   hornerAt-all e r = record { placed = rw e at (r .held) (omega arith); before = r .before; as-long = r .as-long }
 
-  module _ {c next : ℕ} {f : Element} {work mid : List ℕ} (apart : (factor + n ≤ at) × (at + n ≤ next)) (r : HornerAt n q at factor h fits old c work) (p : Placed n next f work mid) where
+  module _ {c next : ℕ} {f : Element} {work mid : List ℕ} (apart : (factor + n ≤ at) × (at + n ≤ next))
+    (r : HornerAt n q at factor h fits old c work) (p : Placed n next f work mid) where
     held-on : 0 < c → (k : ℕ) → k < n → part mid at k ≡ horner n (part old factor) h c k % q
     held-on z k l = p .before (at + k) (omega (arith, apart .1)) ∙ r .held z k l
 

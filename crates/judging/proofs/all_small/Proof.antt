@@ -18,23 +18,8 @@ Inv-loop words b l bits₀ m₀ bits m = (m ≤ length words) × (ltb bits (2 ^ 
 abbrev μ-loop : tie.MeasureT-loop
 μ-loop words b l bits₀ m₀ bits m = length words - m
 
-shl-l : tie.Need-shl-l Inv-loop μ-loop
-shl-l c = omega arith
-
 loop-holds : tie.Need-loop-holds Inv-loop μ-loop
 loop-holds c = (omega arith, bits-none (c .args .b))
-
-mul-bits : tie.Need-mul-bits Inv-loop μ-loop
-mul-bits c = omega arith
-
-shared-slice-read-bits : tie.Need-shared-slice-read-bits Inv-loop μ-loop
-shared-slice-read-bits c = omega arith
-
-add-m : tie.Need-add-m Inv-loop μ-loop
-add-m c = omega arith
-
-loop-less : tie.Need-loop-less Inv-loop μ-loop
-loop-less c = omega arith
 
 loop-again : tie.Need-loop-again Inv-loop μ-loop
 loop-again c =
@@ -42,17 +27,20 @@ loop-again c =
     let l = c .before .before .loop in
     (omega arith, bits-step (a .b) (l .bits) (a .words .now) (l .m) (omega arith) (l .inv .1))
 
+-- once all are looked at
+all : (c : tie.After-loop Inv-loop μ-loop) → let a = c .before .before .args in
+    ltb (c .before .loop .bits) (2 ^ a .b) ≡ coefficientsFit (2 ^ a .b) (a .words .now)
+all c = rw (take-all (c .before .loop .m) (c .before .before .args .words .now) (omega arith)) at (c .before .loop .inv .1)
+
 returns : tie.Need-returns Inv-loop μ-loop
 returns c =
     let s = c .before .before .before in
-    let all : take (c .before .before .loop .m) (s .args .words .now) ≡ s .args .words .now = take-all (c .before .before .loop .m) (s .args .words .now) (omega arith) in
-    bits-below (2 ^ s .args .b) _ _ (rw all at (c .before .before .loop .inv .1)) (rw (shl-one (s .args .b) 32 (omega (arith, s .pre))) at (c .if1 .taken))
+    bits-below (2 ^ s .args .b) _ _ (all (c .before)) (rw (shl-one (s .args .b) 32 (omega (arith, s .pre))) at (c .if1 .taken))
 
 returns-2 : tie.Need-returns-2 Inv-loop μ-loop
 returns-2 c =
     let s = c .before .before .before in
-    let all : take (c .before .before .loop .m) (s .args .words .now) ≡ s .args .words .now = take-all (c .before .before .loop .m) (s .args .words .now) (omega arith) in
-    bits-large (2 ^ s .args .b) _ _ (rw all at (c .before .before .loop .inv .1)) (rw (shl-one (s .args .b) 32 (omega (arith, s .pre))) at (c .if1 .left))
+    bits-large (2 ^ s .args .b) _ _ (all (c .before)) (rw (shl-one (s .args .b) 32 (omega (arith, s .pre))) at (c .if1 .left))
 
 pub all-small-spec : {M : Type 1} → statement M
 all-small-spec =
@@ -60,12 +48,12 @@ all-small-spec =
     (tie.spec
     Inv-loop
     μ-loop
-    shl-l
+    (λ c. omega arith)
     loop-holds
-    mul-bits
-    shared-slice-read-bits
-    add-m
-    loop-less
+    (λ c. omega arith)
+    (λ c. omega arith)
+    (λ c. omega arith)
+    (λ c. omega arith)
     loop-again
     returns
     returns-2)

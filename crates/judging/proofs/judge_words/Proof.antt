@@ -1,58 +1,37 @@
 -- `judging::judge_words` is right because the words before each place fit, several that do not fit settle the answer, and the rest is judged behind them.
 -- Assumes nothing.
 use Prim.Native.Nat.{_-_, _≤_}
-use mathlib.Core.Path.{_≡_, sym, ap, _∙_}
+use mathlib.Core.Path.{_≡_}
+use mathlib.Core.Bool.{true}
 use native.Mathlib.Omega.{arith}
 use borrow.Author.Needs.{needs}
-use lib.ListN.{length, take, drop}
-use Rattle.judging.specs.Reading.{readingsNumber, fitNumber}
-use Rattle.judging.proofs.Judged.{fitNumber-fits, fitNumber-refused}
-use Rattle.judging.proofs.Laws.{fitNumber-nil, fitNumber-take-more, fitNumber-take-part}
+use lib.ListN.{length, take}
+use Rattle.definitions.specs.Octets.{coefficientsFit}
+use Rattle.judging.proofs.Laws.{coefficientsFit-none, readings-below, readings-large, words-more, words-not}
 use Rattle.judging.proofs.judge_words.Statement.{statement}
 use Rattle.judging.proofs.judge_words.Tie as tie
 
 abbrev Inv-loop : tie.InvT-loop
-Inv-loop words q m₀ m = (m ≤ length words) × (fitNumber q (take m words) ≡ 0)
+Inv-loop words q m₀ m = (m ≤ length words) × (coefficientsFit q (take m words) ≡ true)
 
 abbrev μ-loop : tie.MeasureT-loop
 μ-loop words q m₀ m = length words - m
 
 loop-holds : tie.Need-loop-holds Inv-loop μ-loop
-loop-holds c = (omega arith, fitNumber-nil (c .before .args .q))
-
-sub-loop : tie.Need-sub-loop Inv-loop μ-loop
-sub-loop c = omega arith
-
-several-of-requires : tie.Need-several-of-requires Inv-loop μ-loop
-several-of-requires c κs = omega arith
-
-enum-told : tie.Need-enum-told Inv-loop μ-loop
-enum-told c = search needs
-
-enum-told-2 : tie.Need-enum-told-2 Inv-loop μ-loop
-enum-told-2 c = search needs
+loop-holds c = (omega arith, coefficientsFit-none (c .before .args .q))
 
 returns : tie.Need-returns Inv-loop μ-loop
 returns c =
     let a = c .before .before .before .before .before .before .args in
     let m = c .before .before .before .before .loop .m in
-    let eight : fitNumber (a .q) (take 32 (drop m (a .words .now))) ≡ 8 = sym (c .before .before .several-of .ensures) ∙ ap readingsNumber (c .enum-told2 .given .1) in
-    sym (fitNumber-take-part (a .q) (a .words .now) m 32 (fitNumber-refused (a .q) _ (λ z. omega (arith, eight, z))))
-
-add-m : tie.Need-add-m Inv-loop μ-loop
-add-m c = omega arith
-
-loop-less : tie.Need-loop-less Inv-loop μ-loop
-loop-less c = omega arith
+    words-not (a .q) (a .words .now) m 32 (readings-large (a .q) _ (c .before .before .several-of .ensures) (c .enum-told2 .given .1))
 
 loop-again : tie.Need-loop-again Inv-loop μ-loop
 loop-again c =
     let a = c .before .before .before .before .before .before .args in
     let l = c .before .before .before .before .loop in
-    (omega arith, fitNumber-take-more (a .q) (a .words .now) (l .m) 32 (l .inv .1) (fitNumber-fits (a .q) _ (sym (c .before .before .several-of .ensures) ∙ ap readingsNumber (c .enum-told .given .1))))
-
-judge-words-rest-requires : tie.Need-judge-words-rest-requires Inv-loop μ-loop
-judge-words-rest-requires c κs = c .before .loop .inv
+    let below = readings-below (a .q) _ (c .before .before .several-of .ensures) (c .enum-told .given .1) in
+    (omega arith, words-more (a .q) (a .words .now) (l .m) 32 (l .inv .1) below)
 
 returns-2 : tie.Need-returns-2 Inv-loop μ-loop
 returns-2 c = c .judge-words-rest .ensures
@@ -64,13 +43,13 @@ judge-words-spec =
     Inv-loop
     μ-loop
     loop-holds
-    sub-loop
-    several-of-requires
-    enum-told
-    enum-told-2
+    (λ c. omega arith)
+    (λ c κs. omega arith)
+    (λ c. search needs)
+    (λ c. search needs)
     returns
-    add-m
-    loop-less
+    (λ c. omega arith)
+    (λ c. omega arith)
     loop-again
-    judge-words-rest-requires
+    (λ c κs. c .before .loop .inv)
     returns-2)

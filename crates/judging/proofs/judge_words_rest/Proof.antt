@@ -1,18 +1,18 @@
 -- `judging::judge_words_rest` is right because the words before each place fit, and a word that does not fit settles the answer.
 -- Assumes nothing.
 use Prim.Native.Nat.{_-_, _≤_}
-use mathlib.Core.Path.{_≡_, sym, ap, _∙_}
+use mathlib.Core.Path.{_≡_, ap, _∙_}
+use mathlib.Core.Bool.{true}
 use native.Mathlib.Omega.{arith}
 use borrow.Author.Needs.{needs}
 use lib.ListN.{length, take}
-use lib.Seq.{take-all}
-use Rattle.judging.specs.Reading.{readingAs, fitNumber}
-use Rattle.judging.proofs.Laws.{fitNumber-take-next, fitNumber-take-large}
+use Rattle.definitions.specs.Octets.{coefficientsFit}
+use Rattle.judging.proofs.Laws.{reading-below, reading-large, words-more, words-not, words-all, part-one}
 use Rattle.judging.proofs.judge_words_rest.Statement.{statement}
 use Rattle.judging.proofs.judge_words_rest.Tie as tie
 
 abbrev Inv-loop : tie.InvT-loop
-Inv-loop words from q m₀ m = (m ≤ length words) × (fitNumber q (take m words) ≡ 0)
+Inv-loop words from q m₀ m = (m ≤ length words) × (coefficientsFit q (take m words) ≡ true)
 
 abbrev μ-loop : tie.MeasureT-loop
 μ-loop words from q m₀ m = length words - m
@@ -20,44 +20,22 @@ abbrev μ-loop : tie.MeasureT-loop
 loop-holds : tie.Need-loop-holds Inv-loop μ-loop
 loop-holds c = (c .before .pre .0, c .before .pre .1)
 
-mul-bounded : tie.Need-mul-bounded Inv-loop μ-loop
-mul-bounded c = omega arith
-
-shared-slice-read-bounded : tie.Need-shared-slice-read-bounded Inv-loop μ-loop
-shared-slice-read-bounded c = omega arith
-
-bounded-requires : tie.Need-bounded-requires Inv-loop μ-loop
-bounded-requires c κs = search needs
-
-enum-told : tie.Need-enum-told Inv-loop μ-loop
-enum-told c = search needs
-
-enum-told-2 : tie.Need-enum-told-2 Inv-loop μ-loop
-enum-told-2 c = search needs
-
 returns : tie.Need-returns Inv-loop μ-loop
 returns c =
     let a = c .before .before .before .before .before .before .before .args in
-    let l = c .before .before .before .before .before .loop in
-    sym (fitNumber-take-large (a .q) (a .words .now) (l .m) (omega arith) (sym (c .before .before .bounded .ensures) ∙ ap readingAs (c .enum-told2 .given .1)))
-
-add-m : tie.Need-add-m Inv-loop μ-loop
-add-m c = omega arith
-
-loop-less : tie.Need-loop-less Inv-loop μ-loop
-loop-less c = omega arith
+    let m = c .before .before .before .before .before .loop .m in
+    let large = reading-large (a .q) _ (c .before .before .bounded .ensures) (c .enum-told2 .given .1) in
+    words-not (a .q) (a .words .now) m 1 (ap (coefficientsFit (a .q)) (part-one (a .words .now) m (omega arith)) ∙ large)
 
 loop-again : tie.Need-loop-again Inv-loop μ-loop
 loop-again c =
     let a = c .before .before .before .before .before .before .before .args in
     let l = c .before .before .before .before .before .loop in
-    (omega arith, fitNumber-take-next (a .q) (a .words .now) (l .m) (omega arith) (sym (c .before .before .bounded .ensures) ∙ ap readingAs (c .enum-told .given .1)) (l .inv .1))
+    let below = reading-below (a .q) _ (c .before .before .bounded .ensures) (c .enum-told .given .1) .1 in
+    (omega arith, words-more (a .q) (a .words .now) (l .m) 1 (l .inv .1) (ap (coefficientsFit (a .q)) (part-one (a .words .now) (l .m) (omega arith)) ∙ below))
 
 returns-2 : tie.Need-returns-2 Inv-loop μ-loop
-returns-2 c =
-    let w = c .before .before .before .args .words .now in
-    let all : take (c .before .loop .m) w ≡ w = take-all (c .before .loop .m) w (omega arith) in
-    sym (rw all at (c .before .loop .inv .1))
+returns-2 c = let a = c .before .before .before .args in words-all (a .q) (a .words .now) {m = c .before .loop .m} (omega arith) (c .before .loop .inv .1)
 
 pub judge-words-rest-spec : {M : Type 1} → statement M
 judge-words-rest-spec =
@@ -66,13 +44,13 @@ judge-words-rest-spec =
     Inv-loop
     μ-loop
     loop-holds
-    mul-bounded
-    shared-slice-read-bounded
-    bounded-requires
-    enum-told
-    enum-told-2
+    (λ c. omega arith)
+    (λ c. omega arith)
+    (λ c κs. search needs)
+    (λ c. search needs)
+    (λ c. search needs)
     returns
-    add-m
-    loop-less
+    (λ c. omega arith)
+    (λ c. omega arith)
     loop-again
     returns-2)

@@ -1,29 +1,29 @@
 -- `judging::read_by` is right because the words before each place are the coefficients, which fit, and one that does not fit settles the answer.
 -- Assumes nothing.
 use Prim.Native.Nat.{_-_, _*_, _≤_, _<_}
-use mathlib.Core.Path.{_≡_, refl, sym, ap, _∙_}
+use mathlib.Core.Path.{_≡_, refl, ap, _∙_}
+use mathlib.Core.Bool.{true}
 use native.Mathlib.Omega.{arith}
 use borrow.Author.Needs.{needs}
 use lib.ListN.{length, take, length-set}
 use Rattle.definitions.specs.Sequences.{tabulate}
-use Rattle.definitions.specs.Octets.{coefficientAt, decoded}
+use Rattle.definitions.specs.Octets.{coefficientAt, decoded, coefficientsFit}
 use Rattle.definitions.proofs.Filling.{fill-step, fill-end}
 use Rattle.definitions.proofs.Octets.{place-end}
-use Rattle.judging.specs.Reading.{readingAs, fitNumber}
-use Rattle.judging.proofs.Laws.{reading-value, fitNumber-none, fitNumber-decoded-next, fitNumber-decoded-large}
+use Rattle.judging.proofs.Laws.{fitNumber-zero, reading-below, reading-large, coefficientsFrom-one, octets-none, octets-more, octets-not}
 use Rattle.judging.proofs.read_by.Statement.{statement}
 use Rattle.judging.proofs.read_by.Tie as tie
 
 abbrev Inv-loop : tie.InvT-loop
 Inv-loop octets qlen q words₀ m₀ words m =
-    (m ≤ length words) × (length words ≡ length words₀) × (take m words ≡ decoded qlen m octets) × (fitNumber q (decoded qlen m octets) ≡ 0)
+    (m ≤ length words) × (length words ≡ length words₀) × (take m words ≡ decoded qlen m octets) × (coefficientsFit q (decoded qlen m octets) ≡ true)
 
 abbrev μ-loop : tie.MeasureT-loop
 μ-loop octets qlen q words₀ m₀ words m = length words₀ - m
 
 loop-holds : tie.Need-loop-holds Inv-loop μ-loop
 unfolding decoded tabulate
-loop-holds c = let a = c .before .before .args in (omega arith, refl, refl, fitNumber-none (a .q) (a .qlen) (a .octets .now))
+loop-holds c = let a = c .before .before .args in (omega arith, refl, refl, octets-none (a .q) (a .qlen) (a .octets .now))
 
 coefficient-at-requires : tie.Need-coefficient-at-requires Inv-loop μ-loop
 coefficient-at-requires c κs =
@@ -34,8 +34,9 @@ returns : tie.Need-returns Inv-loop μ-loop
 returns c =
     let a = c .before .before .before .before .before .before .before .args in
     let l = c .before .before .before .before .loop in
-    let inside : l .m < length (a .words .now) = omega (arith, c .before .before .before .loop-test .taken, l .inv .1) in (
-      sym (fitNumber-decoded-large (a .q) (a .qlen) (a .octets .now) (l .m) _ inside (sym (c .before .before .coefficient-at .ensures) ∙ ap readingAs (c .enum-told .given .1))),
+    let large = reading-large (a .q) _ (c .before .before .coefficient-at .ensures) (c .enum-told .given .1) in
+    let one = ap (coefficientsFit (a .q)) (coefficientsFrom-one (a .qlen) (a .octets .now) (l .m)) ∙ large in (
+      octets-not (a .q) (a .qlen) (a .octets .now) (l .m) 1 (omega (arith, c .before .before .before .loop-test .taken, l .inv .1)) one,
       λ z. absurd (omega (arith, z)),
     )
 
@@ -44,11 +45,13 @@ unfolding decoded coefficientAt
 loop-again c =
     let a = c .before .before .before .before .before .before .before .before .args in
     let l = c .before .before .before .before .before .loop in
-    let read = sym (c .before .before .before .coefficient-at .ensures) ∙ ap readingAs (c .before .x .given .1) in (
+    let f = coefficientAt (a .qlen) (a .octets .now) in
+    let below = reading-below (a .q) (f (l .m)) (c .before .before .before .coefficient-at .ensures) (c .before .x .given .1) in
+    let one = ap (coefficientsFit (a .q)) (coefficientsFrom-one (a .qlen) (a .octets .now) (l .m)) ∙ below .1 in (
       simp length-set (omega arith),
       simp length-set (omega arith),
-      fill-step (coefficientAt (a .qlen) (a .octets .now)) (l .words) (l .m) (c .before .before .before .before .loop-test .taken) (reading-value (a .q) _ read) (l .inv .2),
-      fitNumber-decoded-next (a .q) (a .qlen) (a .octets .now) (l .m) read (l .inv .3),
+      fill-step f (l .words) (l .m) (c .before .before .before .before .loop-test .taken) (below .0) (l .inv .2),
+      octets-more (a .q) (a .qlen) (a .octets .now) (l .m) 1 (l .inv .3) one,
     )
 
 returns-2 : tie.Need-returns-2 Inv-loop μ-loop
@@ -57,7 +60,7 @@ returns-2 c =
     let a = c .before .before .before .before .args in
     let l = c .before .loop in
     let end : l .m ≡ length (a .words .now) = omega (arith, l .inv .0, l .inv .1, c .loop-test .left) in
-    rw (← end) (sym (l .inv .3), λ z. fill-end (coefficientAt (a .qlen) (a .octets .now)) (l .words) (l .m) (omega arith) (l .inv .2))
+    rw (← end) (fitNumber-zero (a .q) _ (l .inv .3), λ z. fill-end (coefficientAt (a .qlen) (a .octets .now)) (l .words) (l .m) (omega arith) (l .inv .2))
 
 pub read-by-spec : {M : Type 1} → statement M
 read-by-spec =

@@ -6,7 +6,8 @@ use mathlib.Core.Logic.{⊎-elim}
 use native.Mathlib.Omega.{arith}
 use Rattle.definitions.specs.Sequences.{tabulate}
 use Rattle.definitions.specs.Octets.{coefficientAt}
-use Rattle.judging.proofs.Laws.{coefficientsFrom, coefficientsFrom-snoc, places-end, places-start, places-sum, largeMark, large-none, large-kept, large-set, large-below, large-large}
+use Rattle.judging.proofs.Laws.{coefficientsFrom, coefficientsFrom-snoc, places-end, places-start, places-sum}
+use Rattle.judging.proofs.Laws.{largeMark, large-none, large-kept, large-set, large-below, large-large}
 use Rattle.judging.proofs.several_at.Statement.{statement}
 use Rattle.judging.proofs.several_at.Tie as tie
 
@@ -22,24 +23,18 @@ loop-holds c = (omega arith, large-none (c .before .args .q))
 
 add-wide-number : tie.Need-add-wide-number Inv-loop μ-loop
 add-wide-number c =
-    let a = c .before .before .before .args in
-    record { fits = places-sum (a .m) (a .qlen) _ (omega arith) (c .before .before .before .pre .2) (c .before .loop .k) (omega arith) (c .before .before .before .pre .0) (omega arith) }
+    let s = c .before .before .before in
+    record { fits = places-sum (s .args .m) (s .args .qlen) _ (omega arith) (s .pre .2) (c .before .loop .k) (omega arith) (s .pre .0) (omega arith) }
 
 mul-wide-number : tie.Need-mul-wide-number Inv-loop μ-loop
 mul-wide-number c =
-    let a = c .before .before .before .args in
-    record { fits = places-start (a .m) (a .qlen) _ (omega arith) (c .before .before .before .pre .2) (c .before .loop .k) (omega arith) (omega arith) }
+    let s = c .before .before .before in
+    record { fits = places-start (s .args .m) (s .args .qlen) _ (omega arith) (s .pre .2) (c .before .loop .k) (omega arith) (omega arith) }
 
 wide-number-requires : tie.Need-wide-number-requires Inv-loop μ-loop
 wide-number-requires c κs =
     let start = c .before .before .before in
     (start .pre .0, start .pre .1, places-end (start .args .m) (start .args .qlen) _ (start .pre .1) (start .pre .2) (c .before .loop .k) (omega arith))
-
-add-k : tie.Need-add-k Inv-loop μ-loop
-add-k c = omega arith
-
-loop-less : tie.Need-loop-less Inv-loop μ-loop
-loop-less c = omega arith
 
 loop-again : tie.Need-loop-again Inv-loop μ-loop
 loop-again c =
@@ -80,8 +75,8 @@ several-at-spec =
     add-wide-number
     mul-wide-number
     wide-number-requires
-    add-k
-    loop-less
+    (λ c. omega arith)
+    (λ c. omega arith)
     loop-again
     returns
     returns-2)

@@ -15,21 +15,31 @@ use Rattle.secrets.specs.Secrets.{half}
 use Rattle.secrets.proofs.half_bits_clear.Statement.{statement}
 use Rattle.secrets.proofs.half_bits_clear.Tie as tie
 
+-- ---- places
+
+abbrev start : tie.After-bits → tie.Start
+start c = c .before .before .before .before
+
+abbrev counted : tie.After-padding → tie.After-bits
+counted c = c .before .before
+
+-- ---- needs
+
 mul-used : tie.Need-mul-used
 mul-used c =
-    let n : c .before .before .before .before .args .p .n ≤ 4294967295 = omega arith in
-    let b : c .bits .result ≤ 4 = omega (arith, smallBits-within (c .before .before .before .before .args .p .l)) in
+    let n : start c .args .p .n ≤ 4294967295 = omega arith in
+    let b : c .bits .result ≤ 4 = omega (arith, smallBits-within (start c .args .p .l)) in
     omega (arith, mul-le-mul n b)
 
-judged : (c : tie.After-padding) →
-    let a = c .before .before .before .before .before .before .args in
+judged : (c : tie.After-padding) → let a = start (counted c) .args in
     c .padding .result ≡ paddingNumber (a .p .n * smallBits (a .p .l)) (half (setFrom (a .p)) (a .from) (a .secret .now))
 judged c =
-    let a = c .before .before .before .before .before .before .args in
-    let len : ℕ = c .before .before .before .before .small-length .result in
-    let whole : a .from + len - a .from ≡ len = omega arith in
-    c .padding .ensures
-    ∙ ap₂ (λ (b m : ℕ). paddingNumber (a .p .n * b) (take m (drop (a .from) (a .secret .now)))) (c .before .before .bits .ensures) (whole ∙ c .before .before .before .before .small-length .ensures)
+    let b = counted c in
+    let a = start b .args in
+    let len = b .before .before .small-length in
+    let whole : a .from + len .result - a .from ≡ len .result = omega arith in
+    let number : ℕ → ℕ → ℕ = λ x m. paddingNumber (a .p .n * x) (take m (drop (a .from) (a .secret .now))) in
+    c .padding .ensures ∙ ap₂ number (b .bits .ensures) (whole ∙ len .ensures)
 
 returns : tie.Need-returns
 returns c = sym (paddingNumber-refused _ _ (λ z. c .if1 .taken (judged (c .before) ∙ z)))

@@ -15,26 +15,40 @@ use Rattle.secrets.proofs.Halves.{first-room, second-room, unpacked-hal
 use Rattle.secrets.proofs.unpack.Statement.{statement}
 use Rattle.secrets.proofs.unpack.Tie as tie
 
+-- ---- places
+
+abbrev start : tie.After-small-length → tie.Start
+start c = c .before .before .before
+
+abbrev measured : tie.After-unpack-half → tie.After-small-length
+measured c = c .before .before
+
+-- ---- needs
+
 unpack-half-requires : tie.Need-unpack-half-requires
 unfolding workLength
 unpack-half-requires c κs =
-    let room : length (c .before .before .before .before .args .work .now) ≡ 8 * c .before .before .before .before .args .p .n = c .before .before .before .before .pre .1 in
-    (first-room (setFrom (c .before .before .before .before .args .p)) (c .before .before .before .before .args .secret .now) (c .before .before .before .before .pre .0), omega (arith, room))
+    let s = start (c .before) in
+    let room : length (s .args .work .now) ≡ 8 * s .args .p .n = s .pre .1 in
+    (first-room (setFrom (s .args .p)) (s .args .secret .now) (s .pre .0), omega (arith, room))
 
 unpack-half-requires-2 : tie.Need-unpack-half-requires-2
 unfolding workLength
 unpack-half-requires-2 c κs =
-    let a = c .before .before .before .before .before .before .before .before .before .args in
-    let room : length (c .before .before .before .before .unpack-half .last .1 .1 .1 .0) ≡ 8 * a .p .n = c .before .before .before .before .unpack-half .kept .1 .1 .1 .0 ∙ c .before .before .before .before .before .before .before .before .before .pre .1 in
-    (omega (arith, c .before .before .before .before .before .before .small-length .ensures, second-room (setFrom (a .p)) (a .secret .now) (c .before .before .before .before .before .before .before .before .before .pre .0)), omega (arith, room))
+    let first = c .before .before .before .before in
+    let s = start (measured first) in
+    let room : length (first .unpack-half .last .1 .1 .1 .0) ≡ 8 * s .args .p .n = first .unpack-half .kept .1 .1 .1 .0 ∙ s .pre .1 in
+    (omega (arith, measured first .small-length .ensures, second-room (setFrom (s .args .p)) (s .args .secret .now) (s .pre .0)), omega (arith, room))
 
 returns : tie.Need-returns
 returns c =
-    let a = c .before .before .before .before .before .before .before .before .before .before .before .before .args in
-    let mid : List ℕ = c .before .before .before .before .before .before .before .unpack-half .last .1 .1 .1 .0 in
-    unpacked-halves (setFrom (a .p)) (a .secret .now) (c .before .before .before .before .before .before .before .before .before .before .before .before .pre .0) (a .work .now) mid (c .before .before .before .before .before .before .before .before .before .before .before .before .pre .1) (c .before .before .before .before .before .before .before .unpack-half .ensures)
-    (c .before .before .unpack-half2 .ensures
-    ∙ ap (λ (from : ℕ). written (a .p .n) (unpacked (smallBits (a .p .l)) (a .p .n) (half (setFrom (a .p)) from (a .secret .now))) mid) (c .before .before .before .before .before .before .before .before .before .small-length .ensures))
+    let first = c .before .before .before .before .before .before .before in
+    let s = start (measured first) in
+    let a = s .args in
+    let mid : List ℕ = first .unpack-half .last .1 .1 .1 .0 in
+    let second : ℕ → List ℕ = λ from. written (a .p .n) (unpacked (smallBits (a .p .l)) (a .p .n) (half (setFrom (a .p)) from (a .secret .now))) mid in
+    unpacked-halves (setFrom (a .p)) (a .secret .now) (s .pre .0) (a .work .now) mid (s .pre .1) (first .unpack-half .ensures)
+    (c .before .before .unpack-half2 .ensures ∙ ap second (measured first .small-length .ensures))
 
 pub unpack-spec : {M : Type 1} → statement M
 unpack-spec =

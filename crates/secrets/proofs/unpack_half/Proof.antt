@@ -18,18 +18,31 @@ use Rattle.secrets.specs.Secrets.{half}
 use Rattle.secrets.proofs.unpack_half.Statement.{statement}
 use Rattle.secrets.proofs.unpack_half.Tie as tie
 
+-- ---- places
+
+abbrev measured : tie.After-bits → tie.After-small-length
+measured c = c .before
+
+abbrev start : tie.After-bits → tie.Start
+start c = c .before .before .before .before
+
+-- ---- needs
+
 unpack-requires : tie.Need-unpack-requires
-unpack-requires c κs = omega (arith, c .before .before .before .bits .ensures, smallBits-within (c .before .before .before .before .before .before .before .args .p .l))
+unpack-requires c κs = let b = c .before .before .before in omega (arith, b .bits .ensures, smallBits-within (start b .args .p .l))
 
 returns : tie.Need-returns
 returns c =
-    let a = c .before .before .before .before .before .before .before .before .before .before .args in
-    let len : ℕ = c .before .before .before .before .before .before .before .small-length .result in
-    let whole : a .from + len - a .from ≡ len = omega arith in
+    let b = c .before .before .before .before .before .before in
+    let s = start b in
+    let a = s .args in
+    let len : ℕ = measured b .small-length .result in
+    let octets : a .from + len - a .from ≡ len = omega arith in
+    let words = length-borrowed (a .at) (a .p .n) (a .work .now) (s .pre .1) in
     let given : c .before .before .unpack .last .1 .1 .0 ≡ unpacked (smallBits (a .p .l)) (a .p .n) (half (setFrom (a .p)) (a .from) (a .secret .now)) =
     c .before .before .unpack .ensures
-    ∙ ap (λ (m : ℕ). unpacked (c .before .before .before .before .before .before .bits .result) m (take (a .from + len - a .from) (drop (a .from) (a .secret .now)))) (length-borrowed (a .at) (a .p .n) (a .work .now) (c .before .before .before .before .before .before .before .before .before .before .pre .1))
-    ∙ ap₂ (λ (b m : ℕ). unpacked b (a .p .n) (take m (drop (a .from) (a .secret .now)))) (c .before .before .before .before .before .before .bits .ensures) (whole ∙ c .before .before .before .before .before .before .before .small-length .ensures) in
+    ∙ ap (λ (m : ℕ). unpacked (b .bits .result) m (take (a .from + len - a .from) (drop (a .from) (a .secret .now)))) words
+    ∙ ap₂ (λ (x m : ℕ). unpacked x (a .p .n) (take m (drop (a .from) (a .secret .now)))) (b .bits .ensures) (octets ∙ measured b .small-length .ensures) in
     putMid-written (a .at) (a .p .n) (a .work .now) _ (ap length given ∙ length-unpacked _ _ _)
     ∙ ap (λ (l : List ℕ). written (a .at) l (a .work .now)) given
 

@@ -50,7 +50,8 @@ returns-2 : tie.Need-returns-2
 returns-2 c =
     let read = c .before .before .before .before .before in
     let a = start (passed read) .args in
-    let clear : secretBitsClear (setFrom (a .p)) (a .secret .now) ≡ true = sym (passed read .before .bits-clear .ensures) ∙ not-false _ (passed read .if1 .left) in
+    let clear : secretBitsClear (setFrom (a .p)) (a .secret .now) ≡ true =
+    sym (passed read .before .bits-clear .ensures) ∙ not-false _ (passed read .if1 .left) in
     let e = rw (read .octets-of-coefficient .ensures) at (c .before .before .evaluate .ensures) in
     valued-read (setFrom (a .p)) (a .d) (a .secret .now) (a .octets .now) clear (unpacked read .unpack .ensures) (e .0) (e .1)
 

@@ -47,7 +47,7 @@ same-x c k l = c .before .loop .inv .1 .before (0 + k) (omega arith)
 row-requires : tie.Need-row-requires Inv-loop μ-loop
 row-requires c κs =
     let p = start (c .before) .pre in (
-      (sizes-kept (p .0 .0) (c .before .before .loop .inv .1 .as-long), p .0 .1, c .before .loop-test .taken, p .0 .2, p .0 .3, p .0 .4),
+      (sizes-kept (p .0 .0) (c .before .before .loop .inv .1 .as-long), p .0 .1, omega (arith, c .before .loop-test .taken), p .0 .2, p .0 .3, p .0 .4),
       λ k l. rw (same-x (c .before) k l) (p .1 .0 k l),
     )
 
@@ -56,17 +56,18 @@ unfolding fitNumber
 returns c =
     let l : tie.In-loop Inv-loop μ-loop = c .before .before .before .before .before in
     let a = start l .args in
-    let fits = fitsAt (a .q) (a .n) (a .qlen) (a .octets .now) in (
-      number-same (rowFits (a .d) fits (l .before .loop .t)) (coefficientsFit (a .q) (decoded (a .qlen) (monomialCount (a .d) * a .n) (a .octets .now)))
-          (c .before .before .before .row .ensures .0) (c .if1 .taken)
-          (λ f. decoded-fits (a .q) (a .n) (a .qlen) (a .octets .now) (monomialCount (a .d)) ∙ rows-not (a .d) fits (l .before .loop .t) (l .loop-test .taken) f),
+    let fits = fitsAt (a .q) (a .n) (a .qlen) (a .octets .now) in
+    let all = decoded-fits (a .q) (a .n) (a .qlen) (a .octets .now) (monomialCount (a .d)) in (
+      number-same (rowFits (a .d) fits (l .before .loop .t)) _ (c .before .before .before .row .ensures .0) (c .if1 .taken)
+          (λ f. all ∙ rows-not (a .d) fits (l .before .loop .t) (omega (arith, l .loop-test .taken)) f),
       λ z. absurd (c .if1 .taken z),
     )
 
 -- the row is taken
 taken : (c : tie.Else1 Inv-loop μ-loop) → let a = start (turn c) .args in
     let l = turn c .before .loop in
-    Placed (a .n) (3 * a .n) (λ k. rowOf (a .n) (a .d) (flat (a .n) (a .qlen) (a .octets .now)) (part (l .work) 0) (l .t) k % a .q) (l .work) (c .before .before .before .row .last .1 .1 .1 .1 .1 .1 .0)
+    let row = rowOf (a .n) (a .d) (flat (a .n) (a .qlen) (a .octets .now)) (part (l .work) 0) (l .t) in
+    Placed (a .n) (3 * a .n) (λ k. row k % a .q) (l .work) (c .before .before .before .row .last .1 .1 .1 .1 .1 .1 .0)
 taken c = c .before .before .before .row .ensures .1 (c .if1 .left)
 
 step-requires : tie.Need-step-requires Inv-loop μ-loop
@@ -88,11 +89,12 @@ loop-again : tie.Need-loop-again Inv-loop μ-loop
 loop-again c =
     let l = turn (passed c) in
     let a = start l .args in
-    let r = l .before .loop in (
+    let r = l .before .loop in
+    let passing = sym (passed c .before .before .before .row .ensures .0) ∙ passed c .if1 .left in
+    let f = flat (a .n) (a .qlen) (a .octets .now) in (
       omega (arith, l .loop-test .taken),
-      hornerAt-next (omega arith, omega arith) (r .inv .1) (taken (passed c))
-          (number-fits (rowFits (a .d) (fitsAt (a .q) (a .n) (a .qlen) (a .octets .now)) (r .t)) (sym (passed c .before .before .before .row .ensures .0) ∙ passed c .if1 .left))
-          (λ k m. ap (λ (x : ℕ). x % a .q) (row-cong (a .n) (a .d) (flat (a .n) (a .qlen) (a .octets .now)) (r .t) (same-x l) k m)) (c .before .before .step .ensures),
+      hornerAt-next (omega arith, omega arith) (r .inv .1) (taken (passed c)) (number-fits (rowFits (a .d) (fitsAt (a .q) (a .n) (a .qlen) (a .octets .now)) (r .t)) passing)
+          (λ k m. ap (λ (x : ℕ). x % a .q) (row-cong (a .n) (a .d) f (r .t) (same-x l) k m)) (c .before .before .step .ensures),
     )
 
 returns-2 : tie.Need-returns-2 Inv-loop μ-loop
@@ -101,9 +103,11 @@ returns-2 c =
     let a = c .before .before .before .before .args in
     let l = c .before .loop in
     let all : l .t ≡ suc (a .d) = omega (arith, l .inv .0, c .loop-test .left) in
-    let fits = fitsAt (a .q) (a .n) (a .qlen) (a .octets .now) in (
-      number-zero (decoded-fits (a .q) (a .n) (a .qlen) (a .octets .now) (monomialCount (a .d)) ∙ rows-all (a .d) fits (rw all at (l .inv .1 .fit))),
-      λ z k m. hornerAt-all all (l .inv .1) .placed k m ∙ ap (λ (x : ℕ). x % a .q) (nested-value (a .n) (a .d) (flat (a .n) (a .qlen) (a .octets .now)) (part (a .work .now) 0) (part (a .work .now) (a .n)) m),
+    let fit = rows-all (a .d) (fitsAt (a .q) (a .n) (a .qlen) (a .octets .now)) (rw all at (l .inv .1 .fit)) in
+    let f = flat (a .n) (a .qlen) (a .octets .now) in (
+      number-zero (decoded-fits (a .q) (a .n) (a .qlen) (a .octets .now) (monomialCount (a .d)) ∙ fit),
+      λ z k m. hornerAt-all all (l .inv .1) .placed k m
+          ∙ ap (λ (x : ℕ). x % a .q) (nested-value (a .n) (a .d) f (part (a .work .now) 0) (part (a .work .now) (a .n)) m),
     )
 
 pub evaluate-spec : {M : Type 1} → statement M

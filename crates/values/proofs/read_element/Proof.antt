@@ -57,7 +57,8 @@ returns c =
       r .ensures .0 ∙ ap (fitNumber (a .q)) coefficients,
       λ z. let words : r .last .1 .1 .1 .0 ≡ element = r .ensures .1 z ∙ coefficients in
           placed-written (a .work .now) (s .pre .3)
-          (putMid-written (a .at) (a .n) (a .work .now) _ (ap length words ∙ length-tabulate (a .n) _) ∙ ap (λ (l : List ℕ). written (a .at) l (a .work .now)) words),
+          (putMid-written (a .at) (a .n) (a .work .now) _ (ap length words ∙ length-tabulate (a .n) _)
+          ∙ ap (λ (l : List ℕ). written (a .at) l (a .work .now)) words),
     )
 
 pub read-element-spec : {M : Type 1} → statement M

@@ -3,7 +3,7 @@
 use Prim.Native.Nat.{ℕ, suc, _+_, _-_, _*_, _≤_, _<_}
 use native.Mathlib.Omega.{arith}
 use mathlib.Core.Path.{_≡_, sym, ap, _∙_}
-use mathlib.Core.Bool.{true}
+use mathlib.Core.Bool.{true, false}
 use borrow.Author.Needs.{needs}
 use lib.ListN.{length}
 use Rattle.definitions.specs.Parameters.{monomialCount}
@@ -49,7 +49,7 @@ inside : (c : tie.In-loop Inv-loop μ-loop) → let a = start c .args in
     c .before .loop .first + (a .d - a .t) < monomialCount (a .d)
 inside c =
     let a = start c .args in
-    rw (here c) (place-inside (a .d) (c .before .loop .s) (a .t) (c .loop-test .taken) (start c .pre .0 .2))
+    rw (here c) (place-inside (a .d) (c .before .loop .s) (a .t) (omega (arith, c .loop-test .taken)) (start c .pre .0 .2))
 
 add-read-element : tie.Need-add-read-element Inv-loop μ-loop
 add-read-element c = omega (arith, inside c, count-most (start c .args .d) (start c .pre .0 .1))
@@ -69,15 +69,19 @@ returns : tie.Need-returns Inv-loop μ-loop
 returns c =
     let l : tie.In-loop Inv-loop μ-loop = c .before .before .before .before .before in
     let a = start l .args in
-    let fits = fitsAt (a .q) (a .n) (a .qlen) (a .octets .now) in (
-      number-same (fits (l .before .loop .first + (a .d - a .t))) (rowFits (a .d) fits (a .t)) (c .before .before .before .read-element .ensures .0) (c .if1 .taken)
-          (λ f. every-false (suc (a .t)) (λ i. fits (termPlace (a .d) (a .t) i)) {k = l .before .loop .s} (omega (arith, l .loop-test .taken)) (rw (here l) at f)),
+    let r = l .before .loop in
+    let fits = fitsAt (a .q) (a .n) (a .qlen) (a .octets .now) in
+    let row : fits (r .first + (a .d - a .t)) ≡ false → rowFits (a .d) fits (a .t) ≡ false =
+    λ f. every-false (suc (a .t)) (λ i. fits (termPlace (a .d) (a .t) i)) {k = r .s} (omega (arith, l .loop-test .taken)) (rw (here l) at f) in (
+      number-same (fits (r .first + (a .d - a .t))) (rowFits (a .d) fits (a .t)) (c .before .before .before .read-element .ensures .0) (c .if1 .taken) row,
       λ z. absurd (c .if1 .taken z),
     )
 
 -- the term is read, and fits
 read : (c : tie.Else1 Inv-loop μ-loop) → let a = start (turn c) .args in
-    Placed (a .n) (4 * a .n) (flat (a .n) (a .qlen) (a .octets .now) (turn c .before .loop .first + (a .d - a .t))) (turn c .before .loop .work) (c .before .before .before .read-element .last .1 .1 .1 .1 .1 .0)
+    let l = turn c .before .loop in
+    let element = flat (a .n) (a .qlen) (a .octets .now) (l .first + (a .d - a .t)) in
+    Placed (a .n) (4 * a .n) element (l .work) (c .before .before .before .read-element .last .1 .1 .1 .1 .1 .0)
 read c = c .before .before .before .read-element .ensures .1 (c .if1 .left)
 
 fitting : (c : tie.Else1 Inv-loop μ-loop) → let a = start (turn c) .args in
