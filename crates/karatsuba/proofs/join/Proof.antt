@@ -35,11 +35,12 @@ kept c =
 subtract-requires-2 : tie.Need-subtract-requires-2
 subtract-requires-2 c κs =
     let once = c .before .before .before in
+    let words = once .subtract .last .0 in
     let a = start once .args in (
       (omega arith, omega arith, inr (omega arith), omega arith),
       (
         inside-ring (wrote (omega arith) (once .subtract .ensures)) (λ k l. mod-lt _ (omega arith)),
-        λ k l. kept-at (a .at) (once .subtract .last .0) (once .subtract .last .0) {at = a .free} (λ k l. refl) (omega arith) (kept once) _ (omega arith) (omega arith),
+        λ k l. kept-at (a .at) words words {at = a .free} (λ k l. refl) (omega arith) (kept once) _ (omega arith) (omega arith),
       ),
     )
 
