@@ -1,17 +1,18 @@
--- What every export leaves, from what the set's constructor answered.
+-- What every export leaves for a set that its constructor refused: the number, and nothing is touched. For an accepted set, which is the one
+-- named (checked-accepted), the call behind keeps the export's promise.
 --
---   refused-arm          a refused set: its number, and nothing is touched
---   refused-value, accepted-value     both arms of an export that itself writes the values
+--   ..-refused           the refused arm of each export
+--   accepted-value       the accepted arm of an export that itself writes the values
 --   degrees-most         the degrees of an accepted set;  count-most: so it has at most 15 monomials
--- An accepted set is the one named (checked-accepted), so the call behind keeps the export's promise.
 -- Assumes nothing.
 use Prim.Native.Nat.{ℕ, _≤_}
 use mathlib.Core.Path.{_≡_, refl, sym, ap, _∙_}
 use mathlib.Core.Bool.{Bool}
 use mathlib.Core.List.{List, []}
-use Rattle.definitions.specs.Refusals.{Test, Answer, untouched, accepted, firstRefusal, answer}
-use Rattle.definitions.specs.Parameters.{Parameters, setTests, monomialCount}
-use Rattle.definitions.specs.Calls.{lengthTests}
+use Rattle.definitions.specs.Refusals.{Test, Answer, untouched, accepted, firstRefusal, answer, number, output}
+use Rattle.definitions.specs.Parameters.{Parameters, Limits, LimitsExit, limitsAnswer, limitsExit, Lengths, LengthsExit, lengthsAnswer, lengthsExit, setTests, monomialCount}
+use Rattle.definitions.specs.Calls.{lengthTests, KeygenExit, keygenLeaves, keygenAnswer, keygenExit, IsZeroExit, isZeroLeaves, isZeroAnswer, isZeroExit, EncryptExit, encryptLeaves, encryptAnswer, encryptExit, AddExit, addLeaves, addAnswer, addExit, DecryptExit, decryptLeaves, decryptAnswer, decryptExit}
+use Rattle.definitions.specs.Conversions.{conversionLeaves, fromOctetsAnswer, fromOctetsExit, toOctetsAnswer, toOctetsExit, packedFromAnswer, packedFromExit, packedToAnswer, packedToExit}
 use Rattle.definitions.proofs.Refusals.{answer-untouched-at, answer-accepted}
 use Rattle.definitions.proofs.Parameters.{accepted-set, key-degree-most, mask-degree-most}
 use Rattle.definitions.proofs.Exits.{exit-set}
@@ -22,24 +23,73 @@ use Rattle.parameters.specs.declared.Checked.{Checked}
 use Rattle.parameters.proofs.Answers.{checked-accepted, checked-refused}
 
 module _ (s : Parameters) {r : Checked} (e : checkedAs r ≡ setAnswer s) where
-  module _ {A E : Type 0} (leaves : Answer A → E) where
-    pub refused-arm : (exact : Bool) (later : List Test) (a : A) {k : ℕ} → r ≡ Checked.Refused k
+  module _ {k : ℕ} (same : r ≡ Checked.Refused k) where
+    refused : {A E : Type 0} (leaves : Answer A → E) (exact : Bool) (later : List Test) (a : A)
         → leaves (untouched k) ≡ leaves (answer (lengthTests s exact) later a)
-    refused-arm exact later a same = let told = checked-refused s e same in exit-set leaves s exact later a (told .0) (told .1)
+    refused leaves exact later a = let told = checked-refused s e same in exit-set leaves s exact later a (told .0) (told .1)
 
-    pub refused-value : (a : A) {k : ℕ} → r ≡ Checked.Refused k → leaves (untouched k) ≡ leaves (answer (setTests s) [] a)
-    refused-value a {k} same =
-        let told = checked-refused s e same in ap leaves (sym (answer-untouched-at (setTests s) [] a k (told .1) (sym (told .0))))
+    refused-set : {A : Type 0} (a : A) → untouched k ≡ answer (setTests s) [] a
+    refused-set a = let told = checked-refused s e same in sym (answer-untouched-at (setTests s) [] a k (told .1) (sym (told .0)))
 
-    pub accepted-value : (value : Parameters → A) {p : Struct.Parameters} → r ≡ Checked.Accepted p
-        → (x : A) → x ≡ value (setFrom p) → leaves (accepted x) ≡ leaves (answer (setTests s) [] (value s))
+    pub limits-refused : (old : Limits) → _≡_ {A = LimitsExit} (record { refusal = k; limits = old }) (limitsExit s old)
+    unfolding limitsExit limitsAnswer
+    limits-refused old = ap (λ (x : Answer Limits). record { refusal = number x; limits = output (λ l. l) x old }) (refused-set _)
+
+    pub lengths-refused : (old : Lengths) → _≡_ {A = LengthsExit} (record { refusal = k; lengths = old }) (lengthsExit s old)
+    unfolding lengthsExit lengthsAnswer
+    lengths-refused old = ap (λ (x : Answer Lengths). record { refusal = number x; lengths = output (λ l. l) x old }) (refused-set _)
+
+    pub keygen-refused : (random secret public : List ℕ) (used : ℕ) (work : List ℕ)
+        → _≡_ {A = KeygenExit} (record { refusal = k; secret = secret; public = public; used = used; work = work }) (keygenExit s random secret public used work)
+    unfolding keygenExit keygenAnswer
+    keygen-refused random secret public used work = refused (λ x. keygenLeaves x secret public used work) _ _ _
+
+    pub isZero-refused : (secret public : List ℕ) (old : ℕ) (work : List ℕ)
+        → _≡_ {A = IsZeroExit} (record { refusal = k; zero = old; work = work }) (isZeroExit s secret public old work)
+    unfolding isZeroExit isZeroAnswer
+    isZero-refused secret public old work = refused (λ x. isZeroLeaves x old work) _ _ _
+
+    pub encrypt-refused : (public message random ciphertext : List ℕ) (used : ℕ) (work : List ℕ)
+        → _≡_ {A = EncryptExit} (record { refusal = k; ciphertext = ciphertext; used = used; work = work }) (encryptExit s public message random ciphertext used work)
+    unfolding encryptExit encryptAnswer
+    encrypt-refused public message random ciphertext used work = refused (λ x. encryptLeaves x ciphertext used work) _ _ _
+
+    pub add-refused : (a b sum : List ℕ) → _≡_ {A = AddExit} (record { refusal = k; sum = sum }) (addExit s a b sum)
+    unfolding addExit addAnswer
+    add-refused a b sum = refused (λ x. addLeaves x sum) _ _ _
+
+    pub decrypt-refused : (secret ciphertext message work : List ℕ)
+        → _≡_ {A = DecryptExit} (record { refusal = k; message = message; work = work }) (decryptExit s secret ciphertext message work)
+    unfolding decryptExit decryptAnswer
+    decrypt-refused secret ciphertext message work = refused (λ x. decryptLeaves x message work) _ _ _
+
+    module _ (elements : ℕ) (given out : List ℕ) where
+      pub decode-refused : record { refusal = k; converted = out } ≡ fromOctetsExit s elements given out
+      unfolding fromOctetsExit fromOctetsAnswer
+      decode-refused = refused (λ x. conversionLeaves x out) _ _ _
+
+      pub encode-refused : record { refusal = k; converted = out } ≡ toOctetsExit s elements given out
+      unfolding toOctetsExit toOctetsAnswer
+      encode-refused = refused (λ x. conversionLeaves x out) _ _ _
+
+      pub unpack-refused : record { refusal = k; converted = out } ≡ packedFromExit s elements given out
+      unfolding packedFromExit packedFromAnswer
+      unpack-refused = refused (λ x. conversionLeaves x out) _ _ _
+
+      pub pack-refused : record { refusal = k; converted = out } ≡ packedToExit s elements given out
+      unfolding packedToExit packedToAnswer
+      pack-refused = refused (λ x. conversionLeaves x out) _ _ _
+
+  module _ {p : Struct.Parameters} (same : r ≡ Checked.Accepted p) where
+    pub accepted-value : {A E : Type 0} (leaves : Answer A → E) (value : Parameters → A) (x : A) → x ≡ value (setFrom p)
+        → leaves (accepted x) ≡ leaves (answer (setTests s) [] (value s))
     unfolding firstRefusal
-    accepted-value value same x is =
+    accepted-value leaves value x is =
         let told = checked-accepted s e same in
         ap leaves (ap (λ y. accepted y) (is ∙ ap value (told .1)) ∙ sym (answer-accepted (setTests s) [] (value s) (told .0) refl))
 
-  pub degrees-most : {p : Struct.Parameters} → r ≡ Checked.Accepted p → (s .dx ≤ 2) × (s .dr ≤ 2)
-  degrees-most same = let set = accepted-set s (checked-accepted s e same .0) in (key-degree-most s set, mask-degree-most s set)
+    pub degrees-most : (s .dx ≤ 2) × (s .dr ≤ 2)
+    degrees-most = let set = accepted-set s (checked-accepted s e same .0) in (key-degree-most s set, mask-degree-most s set)
 
 pub count-most : (d : ℕ) {m : ℕ} → m ≡ monomialCount d → d ≤ 4 → m ≤ 15
 count-most d e h = rw e (monomialCount-le d h)

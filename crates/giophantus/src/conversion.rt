@@ -3,6 +3,11 @@ ghost use Prim.Native.Nat.{_+_};
 ghost use Rattle.definitions.specs.Parameters.{monomialCount};
 ghost use Rattle.definitions.specs.Contracts.{Decodes, Encodes, Unpacks, Packs};
 ghost use Rattle.giophantus.specs.Interface.{set};
+use conversions::decode;
+use conversions::encode;
+use conversions::pack;
+use conversions::unpack;
+use lengths::monomial_count;
 use parameters::Checked;
 use parameters::Parameters;
 
@@ -21,7 +26,7 @@ pub extern "C" fn giophantus_element_from_octets(
     ensures { λ r. ⌜ Decodes (set l q n dx dr mlen) 1 octets words r ⌝ }
 {
     match Parameters::new(l, q, n, dx, dr, mlen) {
-        Checked::Accepted(p) => conversions::decode(p, 1, octets, words),
+        Checked::Accepted(p) => decode(p, 1, octets, words),
         Checked::Refused(k) => k,
     }
 }
@@ -40,7 +45,7 @@ pub extern "C" fn giophantus_element_to_octets(
     ensures { λ r. ⌜ Encodes (set l q n dx dr mlen) 1 words octets r ⌝ }
 {
     match Parameters::new(l, q, n, dx, dr, mlen) {
-        Checked::Accepted(p) => conversions::encode(p, 1, words, octets),
+        Checked::Accepted(p) => encode(p, 1, words, octets),
         Checked::Refused(k) => k,
     }
 }
@@ -60,7 +65,7 @@ pub extern "C" fn giophantus_public_key_from_octets(
     ensures { λ r. ⌜ Decodes (set l q n dx dr mlen) (monomialCount dx) octets words r ⌝ }
 {
     match Parameters::new(l, q, n, dx, dr, mlen) {
-        Checked::Accepted(p) => conversions::decode(p, lengths::monomial_count(dx), octets, words),
+        Checked::Accepted(p) => decode(p, monomial_count(dx), octets, words),
         Checked::Refused(k) => k,
     }
 }
@@ -79,7 +84,7 @@ pub extern "C" fn giophantus_public_key_to_octets(
     ensures { λ r. ⌜ Encodes (set l q n dx dr mlen) (monomialCount dx) words octets r ⌝ }
 {
     match Parameters::new(l, q, n, dx, dr, mlen) {
-        Checked::Accepted(p) => conversions::encode(p, lengths::monomial_count(dx), words, octets),
+        Checked::Accepted(p) => encode(p, monomial_count(dx), words, octets),
         Checked::Refused(k) => k,
     }
 }
@@ -99,12 +104,7 @@ pub extern "C" fn giophantus_ciphertext_from_octets(
     ensures { λ r. ⌜ Decodes (set l q n dx dr mlen) (monomialCount (dx + dr)) octets words r ⌝ }
 {
     match Parameters::new(l, q, n, dx, dr, mlen) {
-        Checked::Accepted(p) => conversions::decode(
-            p,
-            lengths::monomial_count(dx + dr),
-            octets,
-            words,
-        ),
+        Checked::Accepted(p) => decode(p, monomial_count(dx + dr), octets, words),
         Checked::Refused(k) => k,
     }
 }
@@ -123,12 +123,7 @@ pub extern "C" fn giophantus_ciphertext_to_octets(
     ensures { λ r. ⌜ Encodes (set l q n dx dr mlen) (monomialCount (dx + dr)) words octets r ⌝ }
 {
     match Parameters::new(l, q, n, dx, dr, mlen) {
-        Checked::Accepted(p) => conversions::encode(
-            p,
-            lengths::monomial_count(dx + dr),
-            words,
-            octets,
-        ),
+        Checked::Accepted(p) => encode(p, monomial_count(dx + dr), words, octets),
         Checked::Refused(k) => k,
     }
 }
@@ -148,7 +143,7 @@ pub extern "C" fn giophantus_small_from_octets(
     ensures { λ r. ⌜ Unpacks (set l q n dx dr mlen) 1 octets words r ⌝ }
 {
     match Parameters::new(l, q, n, dx, dr, mlen) {
-        Checked::Accepted(p) => conversions::unpack(p, 1, octets, words),
+        Checked::Accepted(p) => unpack(p, 1, octets, words),
         Checked::Refused(k) => k,
     }
 }
@@ -167,7 +162,7 @@ pub extern "C" fn giophantus_small_to_octets(
     ensures { λ r. ⌜ Packs (set l q n dx dr mlen) 1 words octets r ⌝ }
 {
     match Parameters::new(l, q, n, dx, dr, mlen) {
-        Checked::Accepted(p) => conversions::pack(p, 1, words, octets),
+        Checked::Accepted(p) => pack(p, 1, words, octets),
         Checked::Refused(k) => k,
     }
 }
@@ -187,7 +182,7 @@ pub extern "C" fn giophantus_secret_key_from_octets(
     ensures { λ r. ⌜ Unpacks (set l q n dx dr mlen) 2 octets words r ⌝ }
 {
     match Parameters::new(l, q, n, dx, dr, mlen) {
-        Checked::Accepted(p) => conversions::unpack(p, 2, octets, words),
+        Checked::Accepted(p) => unpack(p, 2, octets, words),
         Checked::Refused(k) => k,
     }
 }
@@ -206,7 +201,7 @@ pub extern "C" fn giophantus_secret_key_to_octets(
     ensures { λ r. ⌜ Packs (set l q n dx dr mlen) 2 words octets r ⌝ }
 {
     match Parameters::new(l, q, n, dx, dr, mlen) {
-        Checked::Accepted(p) => conversions::pack(p, 2, words, octets),
+        Checked::Accepted(p) => pack(p, 2, words, octets),
         Checked::Refused(k) => k,
     }
 }

@@ -9,8 +9,13 @@ ghost use Rattle.definitions.specs.Refusals.{firstRefusal};
 ghost use Rattle.definitions.specs.Parameters.{setTests};
 ghost use Rattle.definitions.specs.Contracts.{Bounds, Measures, Makes, Tests, Encrypts, Adds, Decrypts};
 ghost use Rattle.giophantus.specs.Interface.{set};
+use addition::add;
+use decryption::decrypt;
+use encryption::encrypt;
+use key_generation::keygen;
 use parameters::Checked;
 use parameters::Parameters;
+use zero_test::is_zero;
 
 // The set's refusal, 0 where it is accepted.
 #[no_mangle]
@@ -96,14 +101,7 @@ pub extern "C" fn giophantus_keygen(
     ensures { λ r. ⌜ Makes (set l q n dx dr mlen) random «secret_key» «public_key» work used r ⌝ }
 {
     match Parameters::new(l, q, n, dx, dr, mlen) {
-        Checked::Accepted(p) => key_generation::keygen(
-            p,
-            random,
-            secret_key,
-            public_key,
-            work,
-            used,
-        ),
+        Checked::Accepted(p) => keygen(p, random, secret_key, public_key, work, used),
         Checked::Refused(k) => k,
     }
 }
@@ -125,7 +123,7 @@ pub extern "C" fn giophantus_is_zero(
     ensures { λ r. ⌜ Tests (set l q n dx dr mlen) «secret_key» «public_key» work zero r ⌝ }
 {
     match Parameters::new(l, q, n, dx, dr, mlen) {
-        Checked::Accepted(p) => zero_test::is_zero(p, secret_key, public_key, work, zero),
+        Checked::Accepted(p) => is_zero(p, secret_key, public_key, work, zero),
         Checked::Refused(k) => k,
     }
 }
@@ -149,15 +147,7 @@ pub extern "C" fn giophantus_encrypt(
     ensures { λ r. ⌜ Encrypts (set l q n dx dr mlen) «public_key» message random ciphertext work used r ⌝ }
 {
     match Parameters::new(l, q, n, dx, dr, mlen) {
-        Checked::Accepted(p) => encryption::encrypt(
-            p,
-            public_key,
-            message,
-            random,
-            ciphertext,
-            work,
-            used,
-        ),
+        Checked::Accepted(p) => encrypt(p, public_key, message, random, ciphertext, work, used),
         Checked::Refused(k) => k,
     }
 }
@@ -178,7 +168,7 @@ pub extern "C" fn giophantus_add(
     ensures { λ r. ⌜ Adds (set l q n dx dr mlen) a b sum r ⌝ }
 {
     match Parameters::new(l, q, n, dx, dr, mlen) {
-        Checked::Accepted(p) => addition::add(p, a, b, sum),
+        Checked::Accepted(p) => add(p, a, b, sum),
         Checked::Refused(k) => k,
     }
 }
@@ -200,7 +190,7 @@ pub extern "C" fn giophantus_decrypt(
     ensures { λ r. ⌜ Decrypts (set l q n dx dr mlen) «secret_key» ciphertext message work r ⌝ }
 {
     match Parameters::new(l, q, n, dx, dr, mlen) {
-        Checked::Accepted(p) => decryption::decrypt(p, secret_key, ciphertext, message, work),
+        Checked::Accepted(p) => decrypt(p, secret_key, ciphertext, message, work),
         Checked::Refused(k) => k,
     }
 }

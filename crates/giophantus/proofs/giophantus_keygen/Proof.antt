@@ -1,14 +1,10 @@
 -- `giophantus_keygen` hands the set that the constructor accepted to `keygen`.
 -- Assumes nothing.
 use borrow.Author.Needs.{needs}
-use Rattle.definitions.specs.Calls.{keygenLeaves, keygenAnswer, keygenExit}
 use Rattle.parameters.proofs.Answers.{checked-accepted, checked-fits}
-use Rattle.giophantus.proofs.Exits.{refused-arm}
+use Rattle.giophantus.proofs.Exits.{keygen-refused}
 use Rattle.giophantus.proofs.giophantus_keygen.Statement.{statement}
 use Rattle.giophantus.proofs.giophantus_keygen.Tie as tie
-
-keygen-requires : tie.Need-keygen-requires
-keygen-requires c κs = let p = c .before .before .before .before .before in checked-fits _ (p .before .before .new .ensures) (p .p .given .1)
 
 returns : tie.Need-returns
 returns c =
@@ -16,19 +12,12 @@ returns c =
     let p = call .before .before .before .before .before .before in
     rw (← checked-accepted _ (p .before .before .new .ensures) (p .p .given .1) .1) (call .keygen .ensures)
 
-abbrev start : tie.After-new → tie.Start
-start c = c .before .before .before .before .before
-
 returns-2 : tie.Need-returns-2
-unfolding keygenExit keygenAnswer
-returns-2 c =
-    let k = c .before in
-    let new = k .before .before in
-    let old = start new .args in
-    refused-arm _ (new .new .ensures) (λ x. keygenLeaves x (old .secret-key .now) (old .public-key .now) (old .used .now) (old .work .now)) _ _ _ (k .k .given .1)
+returns-2 c = let k = c .before in keygen-refused _ (k .before .before .new .ensures) (k .k .given .1) _ _ _ _ _
 
 pub giophantus-keygen-spec : {M : Type 1} → statement M
 giophantus-keygen-spec =
     tie.close
-    (tie.spec (λ c κs. search needs) (λ c. search needs) keygen-requires (λ c. search needs) (λ c. search needs) (λ c. search needs)
-    (λ c. search needs) returns returns-2)
+    (tie.spec (λ c κs. search needs) (λ c. search needs)
+    (λ c κs. let p = c .before .before .before .before .before in checked-fits _ (p .before .before .new .ensures) (p .p .given .1))
+    (λ c. search needs) (λ c. search needs) (λ c. search needs) (λ c. search needs) returns returns-2)

@@ -6,7 +6,7 @@ use Rattle.definitions.specs.Parameters.{Lengths, LengthsExit, lengthsOf, lengt
 use Rattle.definitions.proofs.Parameters.{Accepted, accepted-set, key-degree-most, mask-degree-most}
 use Rattle.parameters.specs.Answers.{setFrom}
 use Rattle.parameters.proofs.Answers.{checked-fits}
-use Rattle.giophantus.proofs.Exits.{accepted-value, refused-value}
+use Rattle.giophantus.proofs.Exits.{accepted-value, lengths-refused}
 use Rattle.giophantus.proofs.giophantus_lengths.Statement.{statement}
 use Rattle.giophantus.proofs.giophantus_lengths.Tie as tie
 
@@ -30,7 +30,7 @@ returns c =
     let public = message .before in
     let secret = public .before in
     let p = secret .before .before in
-    accepted-value _ (p .before .before .new .ensures) (leaves _) lengthsOf (p .p .given .1) _
+    accepted-value _ (p .before .before .new .ensures) (p .p .given .1) (leaves _) lengthsOf _
     (λ i.
     record {
       secret = secret .secret-length .ensures i;
@@ -41,8 +41,7 @@ returns c =
     })
 
 returns-2 : tie.Need-returns-2
-unfolding lengthsExit lengthsAnswer
-returns-2 c = let k = c .before in refused-value _ (k .before .before .new .ensures) (leaves _) _ (k .k .given .1)
+returns-2 c = let k = c .before in lengths-refused _ (k .before .before .new .ensures) (k .k .given .1) _
 
 pub giophantus-lengths-spec : {M : Type 1} → statement M
 giophantus-lengths-spec =

@@ -4,18 +4,17 @@ use Prim.Native.Nat.{ℕ, _+_, _-_, _*_, _%_, _≤_, _<_}
 use native.Mathlib.Nat.{mod-lt, mul-le-mul}
 use native.Mathlib.Omega.{arith}
 use mathlib.Core.Path.{_≡_, ap, _∙_}
-use mathlib.Core.Logic.{⊎-elim}
 use lib.ListN.{length}
 use borrow.Rule.Slice.PartMut.{mid-len}
 use borrow.Author.Needs.{needs}
 use Rattle.definitions.specs.Parameters.{qlen}
 use Rattle.definitions.specs.Monomials.{value}
 use Rattle.definitions.specs.Calls.{polynomialFrom, elementsFit, decodedElements}
-use Rattle.definitions.proofs.Parameters.{Accepted, accepted-set, modulus-positive, modulus-word, qlen-least, qlen-most, key-degree-most}
-use Rattle.definitions.proofs.Octets.{coefficientsFit-at}
+use Rattle.definitions.proofs.Parameters.{Accepted, accepted-set, modulus-positive, modulus-word, modulus-least, qlen-least, qlen-most, key-degree-most}
 use Rattle.parameters.specs.Answers.{setFrom}
 use Rattle.ring.specs.Work.{part}
-use Rattle.values.specs.Folding.{Sizes}
+use Rattle.decoding.specs.Elements.{Sizes}
+use Rattle.judging.proofs.Judged.{fits-fitNumber}
 use Rattle.key_generation.proofs.Constant.{count-suc, constant-placed}
 use Rattle.key_generation.proofs.write_constant.Statement.{statement}
 use Rattle.key_generation.proofs.write_constant.Tie as tie
@@ -43,7 +42,6 @@ sizes c =
     }
 
 evaluate-requires : tie.Need-evaluate-requires
-unfolding elementsFit decodedElements
 evaluate-requires c κs =
     let o = c .before .before .before in
     let s = start o in
@@ -51,20 +49,23 @@ evaluate-requires c κs =
     rw (o .octets-of-coefficient .ensures) (
       (
         sizes s,
-        ⊎-elim (λ e. omega arith) (λ e. omega arith) (set s .key-degree),
         omega (arith, key-degree-most _ (set s)),
         omega (arith, s .pre .0 .1, ap (λ (m : ℕ). m * p .n * qlen (p .q)) (count-suc (p .dx))),
-        modulus-positive _ (set s),
+        omega (arith, modulus-least _ (set s)),
         omega (arith, set s .modulus-most),
       ),
-      ((λ m l. coefficientsFit-at _ _ _ _ (s .pre .1 .0) l), (s .pre .1 .1, s .pre .1 .2)),
+      (s .pre .1 .1, s .pre .1 .2),
     )
 
--- the value stands in the third part
+-- nothing is refused, since the octets were just written, and the value stands in the third part
 valued-at : (c : tie.After-evaluate) (k : ℕ) → (let a = start (sized c) .args in
     k < a .p .n → part (c .evaluate .last .1 .1 .1 .1 .1 .0) (2 * a .p .n) k
     ≡ value (a .p .n) (a .p .dx) (polynomialFrom (setFrom (a .p)) (a .public .now)) (part (a .work .now) 0) (part (a .work .now) (a .p .n)) k % a .p .q)
-valued-at c k l = rw (sized c .octets-of-coefficient .ensures) at (c .evaluate .ensures k l)
+unfolding elementsFit decodedElements
+valued-at c k l =
+    let s = start (sized c) in
+    let e = rw (sized c .octets-of-coefficient .ensures) at (c .evaluate .ensures) in
+    e .1 (e .0 ∙ fits-fitNumber _ _ (s .pre .1 .0)) k l
 
 words : (c : tie.After-evaluate) → 2 * start (sized c) .args .p .n + start (sized c) .args .p .n ≤ length (c .evaluate .last .1 .1 .1 .1 .1 .0)
 words c = omega (arith, c .evaluate .kept .1 .1 .1 .1 .1 .0, start (sized c) .pre .0 .2)

@@ -2,14 +2,10 @@
 -- Assumes nothing.
 use borrow.Author.Needs.{needs}
 use native.Mathlib.Omega.{arith}
-use Rattle.definitions.specs.Conversions.{conversionLeaves, toOctetsAnswer, toOctetsExit}
 use Rattle.parameters.proofs.Answers.{checked-accepted, checked-fits}
-use Rattle.giophantus.proofs.Exits.{refused-arm}
+use Rattle.giophantus.proofs.Exits.{encode-refused}
 use Rattle.giophantus.proofs.conversion.giophantus_element_to_octets.Statement.{statement}
 use Rattle.giophantus.proofs.conversion.giophantus_element_to_octets.Tie as tie
-
-encode-requires : tie.Need-encode-requires
-encode-requires c κs = let p = c .before .before in (checked-fits _ (p .before .before .new .ensures) (p .p .given .1), omega arith)
 
 returns : tie.Need-returns
 returns c =
@@ -17,17 +13,12 @@ returns c =
     let p = call .before .before .before in
     rw (← checked-accepted _ (p .before .before .new .ensures) (p .p .given .1) .1) (call .encode .ensures)
 
-abbrev start : tie.After-new → tie.Start
-start c = c .before .before .before
-
 returns-2 : tie.Need-returns-2
-unfolding toOctetsExit toOctetsAnswer
-returns-2 c =
-    let k = c .before in
-    let new = k .before .before in
-    let old = start new .args in
-    refused-arm _ (new .new .ensures) (λ x. conversionLeaves x (old .octets .now)) _ _ _ (k .k .given .1)
+returns-2 c = let k = c .before in encode-refused _ (k .before .before .new .ensures) (k .k .given .1) _ _ _
 
 pub giophantus-element-to-octets-spec : {M : Type 1} → statement M
 giophantus-element-to-octets-spec =
-    tie.close (tie.spec (λ c κs. search needs) (λ c. search needs) encode-requires (λ c. search needs) (λ c. search needs) returns returns-2)
+    tie.close
+    (tie.spec (λ c κs. search needs) (λ c. search needs)
+    (λ c κs. let p = c .before .before in (checked-fits _ (p .before .before .new .ensures) (p .p .given .1), omega arith))
+    (λ c. search needs) (λ c. search needs) returns returns-2)
