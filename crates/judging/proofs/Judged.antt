@@ -41,13 +41,9 @@ pub fitNumber-refused : (q : ℕ) (xs : List ℕ) → (fitNumber q xs ≡ 0 → 
 unfolding fitNumber
 fitNumber-refused q xs = number-refused (coefficientsFit q xs)
 
-pub fitNumber-below : (q qlen count : ℕ) (octets : List ℕ) → ((m : ℕ) → m < count → coefficientAt qlen octets m < q)
-    → fitNumber q (decoded qlen count octets) ≡ 0
+pub fits-fitNumber : (q : ℕ) (xs : List ℕ) → coefficientsFit q xs ≡ true → fitNumber q xs ≡ 0
 unfolding fitNumber
-fitNumber-below q qlen count octets h =
-    sym (number-zero (coefficientsFit-true q (decoded qlen count octets) (λ m l.
-    let inside : m < count = rw (length-decoded qlen count octets) at l in
-    rw (getD-decoded qlen count octets inside) (h m inside))))
+fits-fitNumber q xs e = sym (number-zero e)
 
 module _ (p : Parameters) (set : Accepted p) (elements : ℕ) (octets : List ℕ)
     (exact : length octets ≡ elementsLength p elements) {len r : ℕ} (e : len ≡ qlen (p .q))

@@ -25,10 +25,9 @@ use Rattle.definitions.proofs.Parameters.{Accepted, modulus-positive}
 use Rattle.definitions.proofs.Monomials.{monomialCount-pos}
 use Rattle.definitions.proofs.Octets.{AllBelow, below-append, length-encoded, encoded-append}
 use Rattle.definitions.proofs.Elements.{polynomialFrom-encoded, elementsFit-encoded}
-use Rattle.definitions.proofs.Values.{value-split, value-cong, valueOver-cong}
+use Rattle.definitions.proofs.Values.{value-split, value-cong, valueOver-cong, value-cong-secret}
 use Rattle.ring.specs.Work.{part, negated}
 use Rattle.ring.proofs.Work.{written-part}
-use Rattle.values.proofs.Stages.{value-cong-secret}
 use Rattle.key_generation.specs.Keys.{termsLength, withConstant}
 use Rattle.key_generation.proofs.Parts.{put-tail}
 
