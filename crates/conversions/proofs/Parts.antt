@@ -3,10 +3,10 @@
 --   Filled, filled-..    a list of which the first parts are right: the start of a loop that fills them, a turn, and the end
 --   part-room, part-given, part-fits   a part lies inside its list; what a turn makes of one; its words fit where all do
 --   padding-test         the number of the unused bits, compared with 0, is whether they are clear;  every-more: of one element more
---   exact-told, exact-swapped, words-refused   what the tests tell;  leaves-..: what each return leaves
+--   exact-told, exact-swapped, words-refused, small-..   what the tests tell;  leaves-..: what each return leaves
 --   octets-bounds, ..-fits, ..-most   the octets of a coefficient are 1 to 4, and no product wraps
 -- Assumes nothing.
-use Prim.Native.Nat.{ℕ, suc, _+_, _-_, _*_, _≤_, _<_, zero-le}
+use Prim.Native.Nat.{ℕ, suc, _+_, _-_, _*_, _^_, _≤_, _<_, zero-le}
 use mathlib.Core.Path.{_≡_, refl, sym, ap, _∙_}
 use mathlib.Core.Bool.{Bool, true, false, not, _&&_, and-comm}
 use mathlib.Core.List.{List, [], _∷_, _++_, append-assoc}
@@ -30,11 +30,11 @@ use Rattle.definitions.proofs.Refusals.{firstRefusal-applies, firstRefusal-last
 use Rattle.definitions.proofs.Exits.{exit-refused, exit-accepted}
 use Rattle.definitions.proofs.Filling.{length-borrowed}
 use Rattle.definitions.proofs.Octets.{below-take, below-drop, coefficientsFit-below, coefficientsFit-true, place-end}
-use Rattle.definitions.proofs.Parameters.{accepted-set, qlen-least, qlen-most, modulus-positive, modulus-word}
+use Rattle.definitions.proofs.Parameters.{accepted-set, smallBits-power, qlen-least, qlen-most, modulus-positive, modulus-word}
 use Rattle.definitions.proofs.RoundTrips.{joined-snoc}
 use Rattle.parameters.proofs.Bounds.{smallBits-within}
 use Rattle.judging.specs.Reading.{fitNumber}
-use Rattle.judging.proofs.Judged.{fitNumber-refused}
+use Rattle.judging.proofs.Judged.{fitNumber-fits, fitNumber-refused}
 use Rattle.packing.specs.Fields.{paddingNumber}
 
 -- ---- a list filled part by part
@@ -113,6 +113,19 @@ exact-swapped a A b B e = and-comm (eqb b B) (eqb a A) ∙ sym e
 
 pub words-refused : (q : ℕ) (words : List ℕ) {r : ℕ} → r ≡ fitNumber q words → (r ≡ 0 → ⊥) → coefficientsFit q words ≡ false
 words-refused q words e z = fitNumber-refused q words (rw (← e) (pos-of-ne-zero z))
+
+-- small words, judged by the bits of a coefficient
+module _ (p : Parameters) (set : AcceptedSet p) (words : List ℕ) {b r : ℕ} (bits : b ≡ smallBits (p .l)) (number : r ≡ fitNumber (2 ^ b) words) where
+  power : 2 ^ b ≡ p .l
+  power = ap (λ (b : ℕ). 2 ^ b) bits ∙ sym (smallBits-power p (accepted-set p set .range))
+
+  pub small-refused : (r ≡ 0 → ⊥) → coefficientsFit (p .l) words ≡ false
+  small-refused z = words-refused (p .l) words (rw power at number) z
+
+  pub small-fits : r ≡ 0 → (coefficientsFit (p .l) words ≡ true) × (coefficientsFit (2 ^ smallBits (p .l)) words ≡ true)
+  small-fits z =
+      let fits : coefficientsFit (2 ^ b) words ≡ true = fitNumber-fits (2 ^ b) words (sym number ∙ z) in
+      (rw power at fits, rw bits at fits)
 
 module _ (p : Parameters) (set : AcceptedSet p) (exact fit : Bool) (k : ℕ) (value old : List ℕ) where
   abbrev leaves : ConversionExit

@@ -1,7 +1,7 @@
 -- `conversions::pack` is right because it makes the tests of the definition in their order, and packs where all pass.
 -- Assumes nothing.
-use Prim.Native.Nat.{ℕ, _*_, _^_}
-use mathlib.Core.Path.{_≡_, sym, ap, _∙_}
+use Prim.Native.Nat.{_*_, _^_}
+use mathlib.Core.Path.{_≡_, _∙_}
 use mathlib.Core.Bool.{Bool, true, _&&_}
 use lib.Dec.{eqb}
 use lib.ListN.{length}
@@ -10,13 +10,10 @@ use borrow.Author.Tests.{not-true, not-false}
 use Rattle.definitions.specs.Parameters.{smallBits, smallLength}
 use Rattle.definitions.specs.Octets.{coefficientsFit}
 use Rattle.definitions.specs.Conversions.{conversionLeaves, packedToAnswer, packedToExit}
-use Rattle.definitions.proofs.Parameters.{accepted-set, smallBits-power}
 use Rattle.definitions.proofs.Exits.{exit-length}
 use Rattle.parameters.specs.Answers.{setFrom}
 use Rattle.parameters.proofs.Bounds.{smallBits-within}
-use Rattle.judging.specs.Reading.{fitNumber}
-use Rattle.judging.proofs.Judged.{fitNumber-fits}
-use Rattle.conversions.proofs.Parts.{exact-told, exact-swapped, words-refused, leaves-refused, leaves-accepted}
+use Rattle.conversions.proofs.Parts.{exact-told, exact-swapped, small-refused, small-fits, leaves-refused, leaves-accepted}
 use Rattle.conversions.proofs.pack.Statement.{statement}
 use Rattle.conversions.proofs.pack.Tie as tie
 
@@ -45,40 +42,32 @@ start c = c .before .before .before .before
 exact : (c : tie.Else1) → lengths (c .before) ≡ true
 exact c = compared (c .before) ∙ not-false _ (c .if1 .left)
 
-power : (c : tie.Else1) → start c .args .p .l ≡ 2 ^ smallBits (start c .args .p .l)
-power c = let p = setFrom (start c .args .p) in smallBits-power p (accepted-set p (start c .pre .0) .range)
-
--- the judge's answer, by ℓ
-judged : (c : tie.After-judge-small) → let a = start (c .before .before) .args in c .judge-small .result ≡ fitNumber (a .p .l) (a .words .now)
-judged c =
-    c .judge-small .ensures
-    ∙ ap (λ (l : ℕ). fitNumber l (start (c .before .before) .args .words .now))
-    (ap (λ (b : ℕ). 2 ^ b) (c .before .bits .ensures) ∙ sym (power (c .before .before)))
-
 returns-2 : tie.Need-returns-2
 unfolding packedToExit packedToAnswer
 returns-2 c =
-    let s = start (c .before .before .before) in
-    leaves-refused (setFrom (s .args .p)) (s .pre .0) _ _ 7 _ _ (exact (c .before .before .before))
-    (words-refused (s .args .p .l) (s .args .words .now) (judged (c .before)) (c .if2 .taken))
+    let k = c .before .before in
+    let s = start (k .before) in
+    leaves-refused (setFrom (s .args .p)) (s .pre .0) _ _ 7 _ _ (exact (k .before))
+    (small-refused (setFrom (s .args .p)) (s .pre .0) (s .args .words .now) (k .bits .ensures) (c .before .judge-small .ensures) (c .if2 .taken))
 
-fits : (c : tie.Else2) → let a = start (c .before .before .before) .args in coefficientsFit (a .p .l) (a .words .now) ≡ true
-fits c = fitNumber-fits _ (start (c .before .before .before) .args .words .now) (sym (judged (c .before)) ∙ c .if2 .left)
+fits : (c : tie.Else2) → let a = start (c .before .before .before) .args in
+    (coefficientsFit (a .p .l) (a .words .now) ≡ true) × (coefficientsFit (2 ^ smallBits (a .p .l)) (a .words .now) ≡ true)
+fits c =
+    let k = c .before .before in
+    let s = start (k .before) in
+    small-fits (setFrom (s .args .p)) (s .pre .0) (s .args .words .now) (k .bits .ensures) (c .before .judge-small .ensures) (c .if2 .left)
 
 pack-each-requires : tie.Need-pack-each-requires
 pack-each-requires c κs =
-    let t = c .before .before .before .before in
-    let e = exact-told _ _ _ _ (exact t) in (
-      record { octets-length = e .1; words-length = e .0 },
-      ap (λ (l : ℕ). coefficientsFit l (start t .args .words .now)) (sym (power t)) ∙ fits (c .before),
-    )
+    let e = exact-told _ _ _ _ (exact (c .before .before .before .before)) in
+    (record { octets-length = e .1; words-length = e .0 }, fits (c .before) .1)
 
 returns-3 : tie.Need-returns-3
 unfolding packedToExit packedToAnswer
 returns-3 c =
     let t = c .before .before .before .before in
     let s = start (t .before .before .before) in
-    leaves-accepted (setFrom (s .args .p)) (s .pre .0) _ _ 7 _ _ (exact (t .before .before .before)) (fits t) (c .before .before .pack-each .ensures)
+    leaves-accepted (setFrom (s .args .p)) (s .pre .0) _ _ 7 _ _ (exact (t .before .before .before)) (fits t .0) (c .before .before .pack-each .ensures)
 
 pub pack-spec : {M : Type 1} → statement M
 pack-spec =
