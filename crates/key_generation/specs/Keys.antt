@@ -1,7 +1,7 @@
 -- 01, "Draws from lent random octets" (key making): what stands in the work words while keys are made.
 --
 --   Follows          a list stands from a place up to another, behind what stood before it
---   termsEnd         where the words of the terms end: every term but the constant, behind the first two parts;  termsLength: their octets
+--   termsEnd         where the words of the terms end: every term but the constant, behind the first two parts
 --   wordsX, wordsY   the words of u_x and of u_y: the first two parts;  wordsTerms: those of the terms
 --   HalvesDrawn      u_x and u_y, drawn from the front of the random octets
 --   KeyWords         work words of the exact length with small elements in the first two parts and elements of R_q behind them
@@ -22,7 +22,7 @@ use Rattle.definitions.specs.Ring.{elementOf}
 use Rattle.definitions.specs.Monomials.{value}
 use Rattle.definitions.specs.Octets.{encoded, coefficientsFit}
 use Rattle.definitions.specs.Draws.{secretDrawn}
-use Rattle.definitions.specs.Calls.{KeyPair, polynomialFrom, keyConstant, keyPairOf, KeygenExit, keygenLeaves}
+use Rattle.definitions.specs.Calls.{KeyPair, polynomialIn, keyConstant, keyPairOf, KeygenExit, keygenLeaves}
 use Rattle.definitions.specs.Contracts.{Buffer, Cell, before, after}
 use Rattle.definitions.specs.Demand3.{AcceptedSet, InSmallRing}
 use Rattle.ring.specs.Work.{part}
@@ -32,9 +32,6 @@ Follows at stop new old given = take stop given ≡ take at old ++ new
 
 abbrev pub termsEnd : Parameters → ℕ
 termsEnd p = p .n + p .n + (monomialCount (p .dx) - 1) * p .n
-
-abbrev pub termsLength : Parameters → ℕ
-termsLength p = (monomialCount (p .dx) - 1) * p .n * qlen (p .q)
 
 abbrev pub wordsX : Parameters → List ℕ → List ℕ
 wordsX p = slice 0 (p .n)
@@ -56,11 +53,10 @@ pub record KeyWords (p : Parameters) (work : List ℕ) : Type 0 where
   pub y : InSmallRing p (wordsY p work)
   pub terms : coefficientsFit (p .q) (wordsTerms p work) ≡ true
 
-abbrev pub withConstant : Parameters → List ℕ → List ℕ → List ℕ
-withConstant p public work =
-    take (termsLength p) public
-    ++ encoded (qlen (p .q))
-    (tabulate (p .n) (λ k. (p .q - value (p .n) (p .dx) (polynomialFrom p public) (part work 0) (part work (p .n)) k % p .q) % p .q))
+abbrev pub withConstant : ℕ → ℕ → ℕ → ℕ → List ℕ → List ℕ → List ℕ
+withConstant d n len q public work =
+    take (length public - n * len) public
+    ++ encoded len (tabulate n (λ k. (q - value n d (polynomialIn n len public) (part work 0) (part work n) k % q) % q))
 
 abbrev pub publicIn : Parameters → List ℕ → List ℕ
 publicIn p work =

@@ -6,21 +6,21 @@
 // words, u_x and u_y in the first two parts and the terms behind them, before an output is written. The contract cites keygenExit.
 ghost use mathlib.Core.Path.{_≡_};
 ghost use mathlib.Core.Bool.{true};
-ghost use mathlib.Core.List.{_++_};
 ghost use Prim.Native.Nat.{_+_, _*_, _^_, _≤_, _<_};
-ghost use lib.ListN.{length, take, drop, replicate};
+ghost use lib.ListN.{length, take, drop};
 ghost use lib.Seq.{slice};
-ghost use Rattle.definitions.specs.Parameters.{smallBits, qlen, monomialCount, smallLength, secretLength};
+ghost use Rattle.definitions.specs.Parameters.{smallBits, qlen, monomialCount, smallLength, secretLength, publicLength};
 ghost use Rattle.definitions.specs.Ring.{InRing};
-ghost use Rattle.definitions.specs.Octets.{encoded, packed};
+ghost use Rattle.definitions.specs.Octets.{decoded, coefficientsFit, packed};
 ghost use Rattle.definitions.specs.Draws.{secretDrawn};
-ghost use Rattle.definitions.specs.Calls.{keysExact, elementsFit, keyDraws};
+ghost use Rattle.definitions.specs.Calls.{keysExact, keyDraws};
 ghost use Rattle.definitions.specs.Contracts.{before, after, Makes};
 ghost use Rattle.definitions.specs.Demand3.{AcceptedSet, InSmallRing, secretOf};
 ghost use Rattle.parameters.specs.Answers.{setFrom};
 ghost use Rattle.draws.specs.Runs.{said, drawnAnswer};
 ghost use Rattle.ring.specs.Work.{part};
-ghost use Rattle.key_generation.specs.Keys.{Follows, termsEnd, termsLength, wordsX, wordsY, wordsTerms, HalvesDrawn, KeyWords, withConstant, publicIn, Writes};
+ghost use Rattle.values.specs.Folding.{Sizes};
+ghost use Rattle.key_generation.specs.Keys.{Follows, termsEnd, wordsX, wordsY, wordsTerms, HalvesDrawn, KeyWords, withConstant, publicIn, Writes};
 use draws::Run;
 use parameters::Parameters;
 use parameters::refusals;
@@ -83,43 +83,33 @@ fn write_secret(p: Parameters, secret: &mut [u8], work: &[u32])
     write_half(p, work, p.n as usize, secret, lengths::small_length(p));
 }
 
-// The octets of the terms, and of 0 for the constant.
-fn write_terms(p: Parameters, public: &mut [u8], work: &mut [u32])
-    requires { ⌜ AcceptedSet (setFrom p) × (length (now public) ≡ termsLength (setFrom p) + p .n * qlen (p .q)) × (length (now work) ≡ 8 * p .n) ⌝ }
-    ensures { λ _. ⌜ after public ≡ encoded (qlen (p .q)) (wordsTerms (setFrom p) (before work) ++ replicate (p .n) 0) ⌝ }
-    ensures { λ _. ⌜ take (p .n + p .n) (after work) ≡ take (p .n + p .n) (before work) ⌝ }
-{
-    let n = p.n as usize;
-    let at = n + n;
-    let stop = terms_end(p);
-    let end = stop + n;
-    ring::clear(&mut work[stop..end]);
-    encoding::encode(&work[at..end], lengths::octets_of_coefficient(p.q), public);
-}
-
 // The octets of the constant that makes the secret in the first two parts of the work words a zero of a key whose constant is 0.
-fn write_constant(p: Parameters, public: &mut [u8], work: &mut [u32])
-    requires { ⌜ AcceptedSet (setFrom p) × (length (now public) ≡ termsLength (setFrom p) + p .n * qlen (p .q)) × (length (now work) ≡ 8 * p .n) ⌝ }
-    requires { ⌜ (elementsFit (setFrom p) (monomialCount (p .dx)) (now public) ≡ true) × InRing 16 (p .n) (part (now work) 0) × InRing 16 (p .n) (part (now work) (p .n)) ⌝ }
-    ensures { λ _. ⌜ after public ≡ withConstant (setFrom p) (before public) (before work) ⌝ }
+fn write_constant(public: &mut [u8], d: usize, n: usize, qlen: usize, q: u32, work: &mut [u32])
+    requires { ⌜ Sizes n qlen (now work) × (0 < d) × (d ≤ 4) × (length (now public) ≡ monomialCount d * n * qlen) × (0 < q) × (q < 2147483648) ⌝ }
+    requires { ⌜ (coefficientsFit q (decoded qlen (monomialCount d * n) (now public)) ≡ true) × InRing 16 n (part (now work) 0) × InRing 16 n (part (now work) n) ⌝ }
+    ensures { λ _. ⌜ after public ≡ withConstant d n qlen q (before public) (before work) ⌝ }
 {
-    let n = p.n as usize;
-    let qlen = lengths::octets_of_coefficient(p.q);
-    values::evaluate(public, p.dx as usize, n, qlen, p.q, work);
+    values::evaluate(public, d, n, qlen, q, work);
     let at = 2 * n;
     let stop = at + n;
-    ring::negate(work, at, n, p.q);
+    ring::negate(work, at, n, q);
     let from = public.len() - n * qlen;
     encoding::encode(&work[at..stop], qlen, &mut public[from..]);
 }
 
-// The public key's octets.
+// The public key's octets: those of the terms, and of 0 for the constant, until it is known.
 fn write_public(p: Parameters, public: &mut [u8], work: &mut [u32])
-    requires { ⌜ KeyWords (setFrom p) (now work) × (length (now public) ≡ termsLength (setFrom p) + p .n * qlen (p .q)) ⌝ }
+    requires { ⌜ KeyWords (setFrom p) (now work) × (length (now public) ≡ publicLength (setFrom p)) ⌝ }
     ensures { λ _. ⌜ after public ≡ publicIn (setFrom p) (before work) ⌝ }
 {
-    write_terms(p, public, work);
-    write_constant(p, public, work);
+    let n = p.n as usize;
+    let qlen = lengths::octets_of_coefficient(p.q);
+    let at = n + n;
+    let stop = terms_end(p);
+    let end = stop + n;
+    ring::clear(&mut work[stop..end]);
+    encoding::encode(&work[at..end], qlen, public);
+    write_constant(public, p.dx as usize, n, qlen, p.q, work);
 }
 
 // With all drawn: both keys, and how many octets they took.
@@ -131,7 +121,7 @@ fn keygen_drawn(
     work: &mut [u32],
     used: &mut u64,
 ) -> u32
-    requires { ⌜ KeyWords (setFrom p) (now work) × (length (now secret) ≡ smallLength (setFrom p) + smallLength (setFrom p)) × (length (now public) ≡ termsLength (setFrom p) + p .n * qlen (p .q)) × (secretLength (setFrom p) + qlen (p .q) * groups < 2 ^ 64) ⌝ }
+    requires { ⌜ KeyWords (setFrom p) (now work) × (length (now secret) ≡ smallLength (setFrom p) + smallLength (setFrom p)) × (length (now public) ≡ publicLength (setFrom p)) × (secretLength (setFrom p) + qlen (p .q) * groups < 2 ^ 64) ⌝ }
     ensures { λ r. ⌜ Writes (setFrom p) groups secret public work used r ⌝ }
 {
     write_secret(p, secret, work);

@@ -6,15 +6,14 @@ use mathlib.Core.Path.{_≡_, sym, ap, _∙_}
 use mathlib.Core.Bool.{true}
 use lib.ListN.{length, replicate}
 use borrow.Author.Needs.{needs}
-use Rattle.definitions.specs.Parameters.{qlen, smallLength, secretLength, workLength}
+use Rattle.definitions.specs.Parameters.{qlen, smallLength, secretLength, publicLength, workLength}
 use Rattle.definitions.specs.Draws.{Drawn}
 use Rattle.definitions.specs.Calls.{keyDraws}
 use Rattle.definitions.proofs.Calls.{keysExact-told}
 use Rattle.definitions.proofs.Parameters.{secretLength-halves}
 use Rattle.parameters.specs.Answers.{setFrom}
 use Rattle.draws.proofs.Runs.{said-complete, said-exhausted}
-use Rattle.key_generation.specs.Keys.{termsLength, wordsTerms, HalvesDrawn}
-use Rattle.key_generation.proofs.Constant.{publicLength-front}
+use Rattle.key_generation.specs.Keys.{wordsTerms, HalvesDrawn}
 use Rattle.key_generation.proofs.Words.{halves-kept, key-words, used-room}
 use Rattle.key_generation.proofs.Returns.{keygen-exhausted, keygen-written}
 use Rattle.key_generation.proofs.keygen_counted.Statement.{statement}
@@ -31,13 +30,10 @@ drawn c = c .before .before .before .before .before
 
 exact : (c : tie.Start)
     → (let p = setFrom (c .args .p) in
-    (length (c .args .secret .now) ≡ smallLength p + smallLength p)
-    × (length (c .args .public .now) ≡ termsLength p + p .n * qlen (p .q)) × (length (c .args .work .now) ≡ 8 * p .n))
+    (length (c .args .secret .now) ≡ smallLength p + smallLength p) × (length (c .args .public .now) ≡ publicLength p)
+    × (length (c .args .work .now) ≡ 8 * p .n))
 unfolding secretLength workLength
-exact c =
-    let p = setFrom (c .args .p) in
-    let told = keysExact-told p (c .pre .1) in
-    (told .0, told .1 ∙ publicLength-front p, told .2)
+exact c = keysExact-told (setFrom (c .args .p)) (c .pre .1)
 
 -- the work words keep their length over both draws
 as-long : (c : tie.After-draw-terms) → length (c .draw-terms .last .1 .1 .0) ≡ length (start (halves c) .args .work .now)
