@@ -6,10 +6,10 @@
 // words, u_x and u_y in the first two parts and the terms behind them, before an output is written. The contract cites keygenExit.
 ghost use mathlib.Core.Path.{_≡_};
 ghost use mathlib.Core.Bool.{true};
-ghost use Prim.Native.Nat.{_+_, _*_, _^_, _≤_, _<_};
+ghost use Prim.Native.Nat.{_+_, _*_, _≤_, _<_};
 ghost use lib.ListN.{length, take, drop};
 ghost use lib.Seq.{slice};
-ghost use Rattle.definitions.specs.Parameters.{smallBits, qlen, monomialCount, smallLength, secretLength, publicLength};
+ghost use Rattle.definitions.specs.Parameters.{smallBits, monomialCount, smallLength, secretLength, publicLength};
 ghost use Rattle.definitions.specs.Ring.{InRing};
 ghost use Rattle.definitions.specs.Octets.{decoded, coefficientsFit, packed};
 ghost use Rattle.definitions.specs.Draws.{secretDrawn};
@@ -20,7 +20,7 @@ ghost use Rattle.parameters.specs.Answers.{setFrom};
 ghost use Rattle.draws.specs.Runs.{said, drawnAnswer};
 ghost use Rattle.ring.specs.Work.{part};
 ghost use Rattle.values.specs.Folding.{Sizes};
-ghost use Rattle.key_generation.specs.Keys.{Follows, termsEnd, wordsX, wordsY, wordsTerms, HalvesDrawn, KeyWords, withConstant, publicIn, Writes};
+ghost use Rattle.key_generation.specs.Keys.{Follows, termsEnd, wordsX, wordsY, wordsTerms, HalvesDrawn, KeyWords, withConstant, publicIn};
 use draws::Run;
 use parameters::Parameters;
 use parameters::refusals;
@@ -112,24 +112,6 @@ fn write_public(p: Parameters, public: &mut [u8], work: &mut [u32])
     write_constant(public, p.dx as usize, n, qlen, p.q, work);
 }
 
-// With all drawn: both keys, and how many octets they took.
-fn keygen_drawn(
-    p: Parameters,
-    groups: usize,
-    secret: &mut [u8],
-    public: &mut [u8],
-    work: &mut [u32],
-    used: &mut u64,
-) -> u32
-    requires { ⌜ KeyWords (setFrom p) (now work) × (length (now secret) ≡ smallLength (setFrom p) + smallLength (setFrom p)) × (length (now public) ≡ publicLength (setFrom p)) × (secretLength (setFrom p) + qlen (p .q) * groups < 2 ^ 64) ⌝ }
-    ensures { λ r. ⌜ Writes (setFrom p) groups secret public work used r ⌝ }
-{
-    write_secret(p, secret, work);
-    write_public(p, public, work);
-    *used = (lengths::secret_length(p) + lengths::octets_of_coefficient(p.q) * groups) as u64;
-    ring::cleared(work, 0)
-}
-
 // With the octets of the secret counted: all is drawn before an output is written.
 fn keygen_counted(
     p: Parameters,
@@ -146,7 +128,10 @@ fn keygen_counted(
     let Run::Complete(groups) = draw_terms(p, random, work) else {
         return ring::cleared(work, refusals::EXHAUSTED);
     };
-    keygen_drawn(p, groups, secret, public, work, used)
+    write_secret(p, secret, work);
+    write_public(p, public, work);
+    *used = (lengths::secret_length(p) + lengths::octets_of_coefficient(p.q) * groups) as u64;
+    ring::cleared(work, 0)
 }
 
 pub fn keygen(
