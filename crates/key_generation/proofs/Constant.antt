@@ -87,7 +87,8 @@ module _ (p : Parameters) (a : Accepted p) (others : List ℕ) (sized : length o
 
   pub constant-octets : {public : List ℕ} (work ux uy : List ℕ) → public ≡ octets
       → ((k : ℕ) → k < p .n → part work 0 k ≡ elementOf ux k) → ((k : ℕ) → k < p .n → part work (p .n) k ≡ elementOf uy k)
-      → withConstant (p .dx) (p .n) (qlen (p .q)) (p .q) public work ≡ encoded (qlen (p .q)) (others ++ tabulate (p .n) (keyConstant p others (elementOf ux) (elementOf uy)))
+      → withConstant (p .dx) (p .n) (qlen (p .q)) (p .q) public work
+      ≡ encoded (qlen (p .q)) (others ++ tabulate (p .n) (keyConstant p others (elementOf ux) (elementOf uy)))
   unfolding keyConstant
   constant-octets work ux uy same hx hy =
       rw same

@@ -27,7 +27,8 @@ use Rattle.definitions.specs.Octets.{coefficientsFit, packed}
 use Rattle.definitions.specs.Draws.{candidates, draws, secretDrawn}
 use Rattle.definitions.specs.Calls.{keyDraws}
 use Rattle.definitions.specs.Demand3.{AcceptedSet, InSmallRing}
-use Rattle.definitions.proofs.Parameters.{Accepted, accepted-set, range-most, modulus-positive, modulus-word, qlen-least, qlen-most, smallBits-power, smallBits-least, smallBits-most}
+use Rattle.definitions.proofs.Parameters.{Accepted, accepted-set, range-most, modulus-positive, modulus-word, qlen-least, qlen-most}
+use Rattle.definitions.proofs.Parameters.{smallBits-power, smallBits-least, smallBits-most}
 use Rattle.definitions.proofs.Octets.{coefficientsFit-true}
 use Rattle.definitions.proofs.Small.{unpacked-small}
 use Rattle.definitions.proofs.MadeKeys.{keyDraws-below}
@@ -63,7 +64,7 @@ module _ (p : Parameters) (a : Accepted p) where
         room = e;
       }
 
-  pub drawn-in : (random : List ℕ) → InSmallRing p (secretDrawn p random)
+  drawn-in : (random : List ℕ) → InSmallRing p (secretDrawn p random)
   unfolding secretDrawn
   drawn-in random = unpacked-small p a (take (smallLength p) random)
 

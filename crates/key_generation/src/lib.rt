@@ -39,8 +39,10 @@ fn draw_halves(p: Parameters, random: &[u8], work: &mut [u32])
     requires { ⌜ (smallLength (setFrom p) + smallLength (setFrom p) ≤ length (now random)) × (length (now work) ≡ 8 * p .n) ⌝ }
     ensures { λ _. ⌜ HalvesDrawn (setFrom p) (before random) (after work) ⌝ }
 {
+    let n = p.n as usize;
+    let one = lengths::small_length(p);
     draw_half(p, random, 0, work, 0);
-    draw_half(p, random, lengths::small_length(p), work, p.n as usize);
+    draw_half(p, random, one, work, n);
 }
 
 // Where the words of the terms end: all terms but the constant, behind the first two parts.
@@ -79,8 +81,10 @@ fn write_secret(p: Parameters, secret: &mut [u8], work: &[u32])
     requires { ⌜ KeyWords (setFrom p) (now work) × (length (now secret) ≡ smallLength (setFrom p) + smallLength (setFrom p)) ⌝ }
     ensures { λ _. ⌜ after secret ≡ secretOf (setFrom p) (wordsX (setFrom p) (before work)) (wordsY (setFrom p) (before work)) ⌝ }
 {
+    let n = p.n as usize;
+    let one = lengths::small_length(p);
     write_half(p, work, 0, secret, 0);
-    write_half(p, work, p.n as usize, secret, lengths::small_length(p));
+    write_half(p, work, n, secret, one);
 }
 
 // The octets of the constant that makes the secret in the first two parts of the work words a zero of a key whose constant is 0.
@@ -130,7 +134,9 @@ fn keygen_counted(
     };
     write_secret(p, secret, work);
     write_public(p, public, work);
-    *used = (lengths::secret_length(p) + lengths::octets_of_coefficient(p.q) * groups) as u64;
+    let start = lengths::secret_length(p);
+    let taken = lengths::octets_of_coefficient(p.q) * groups;
+    *used = (start + taken) as u64;
     ring::cleared(work, 0)
 }
 

@@ -106,8 +106,8 @@ fits c =
     let p = setFrom (s .args .p) in
     omega (arith, counted c, used-room p (s .args .random .now) (s .pre .2), ap (λ (x : Drawn). qlen (p .q) * x .groups) (terms k), s .good .1 .0 .1)
 
-mul-used : tie.Need-mul-used
-mul-used c = omega (arith, fits c)
+mul-taken : tie.Need-mul-taken
+mul-taken c = omega (arith, fits c)
 
 add-used : tie.Need-add-used
 add-used c = omega (arith, fits c)
@@ -140,7 +140,7 @@ keygen-counted-spec =
     write-public-requires
     (λ c κs. search needs)
     (λ c κs. search needs)
-    mul-used
+    mul-taken
     add-used
     (λ c κs. search needs)
     (λ c. search needs)

@@ -37,7 +37,7 @@ octets c =
 negate-requires : tie.Need-negate-requires
 negate-requires c κs =
     let v = c .before .before .before in
-    (words v, (λ k l. rw (v .evaluate .ensures k l) (mod-lt _ (start v .pre .0 .4))))
+    (omega (arith, words v), (λ k l. rw (v .evaluate .ensures k (omega arith)) (mod-lt _ (start v .pre .0 .4))))
 
 mul-from : tie.Need-mul-from
 mul-from c = let sizes = start (valued (c .before .before)) .pre .0 .0 in omega (arith, mul-le-mul (sizes .most) (sizes .octets-most))
