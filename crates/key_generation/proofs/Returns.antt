@@ -2,21 +2,22 @@
 --
 --   keygen-length                   6: nothing is touched
 --   keygen-short, keygen-exhausted  9: the work words are cleared, and nothing else is touched
---   keygen-written, keys-written    both keys
+--   keygen-written                  both keys
 -- Assumes nothing.
 use Prim.Native.Nat.{ℕ, _+_, _*_, _≤_, _<_}
-use mathlib.Core.Path.{_≡_}
+use mathlib.Core.Path.{_≡_, sym, ap}
 use mathlib.Core.Bool.{true, false}
 use mathlib.Core.List.{List, []}
 use borrow.Author.Tests.{lt-ltb, le-ltb}
 use lib.ListN.{length, replicate}
-use Rattle.definitions.specs.Refusals.{Answer, untouched, accepted}
+use Rattle.definitions.specs.Refusals.{Answer, untouched}
 use Rattle.definitions.specs.Parameters.{Parameters, qlen, secretLength}
+use Rattle.definitions.specs.Draws.{Drawn}
 use Rattle.definitions.specs.Calls.{KeyPair, keysExact, keyDraws, keyPairOf, KeygenExit, keygenAnswer, keygenLeaves, keygenExit}
 use Rattle.definitions.specs.Demand3.{AcceptedSet, secretOf}
 use Rattle.definitions.proofs.Refusals.{firstRefusal-applies, firstRefusal-last}
 use Rattle.definitions.proofs.Exits.{exit-length, exit-refused, exit-accepted}
-use Rattle.key_generation.specs.Keys.{wordsX, wordsY, wordsTerms, HalvesDrawn, publicIn, keysIn}
+use Rattle.key_generation.specs.Keys.{wordsX, wordsY, wordsTerms, HalvesDrawn, publicIn}
 
 module _ (p : Parameters) (random secret public : List ℕ) (used : ℕ) (work : List ℕ) (set : AcceptedSet p) where
   abbrev leaves : Answer KeyPair → KeygenExit
@@ -49,20 +50,15 @@ module _ (p : Parameters) (random secret public : List ℕ) (used : ℕ) (work :
           rw (z .0, z .1) (exit-refused leaves p _ _ _ set exact 8
           (firstRefusal-applies 9 _ [] (rw (le-ltb (length random) (secretLength p) room, h))))
 
-      -- what is drawn stands in other work words, as many
-      pub keygen-written : (words : List ℕ) (groups : ℕ) → length words ≡ length work → HalvesDrawn p random words
+      -- both keys, of what was drawn into other work words
+      pub keygen-written : (words : List ℕ) (groups : ℕ) → HalvesDrawn p random words
           → keyDraws p random ≡ record { values = wordsTerms p words; groups = groups; enough = true }
-          → keygenLeaves (accepted (keysIn p groups words)) secret public used words ≡ exit
-      unfolding keygenExit keygenAnswer
-      keygen-written words groups sized halves e =
-          rw (sized, halves .x, halves .y, ← e) (exit-accepted leaves p _ _ _ set exact
+          → {k u : ℕ} {s o zeros : List ℕ} → s ≡ secretOf p (wordsX p words) (wordsY p words) → o ≡ publicIn p words
+          → u ≡ secretLength p + qlen (p .q) * groups → (k ≡ 0) × (zeros ≡ replicate (length work) 0)
+          → _≡_ {A = KeygenExit} (record { refusal = k; secret = s; public = o; used = u; work = zeros }) exit
+      unfolding keygenExit keygenAnswer keyPairOf
+      keygen-written words groups halves e es eo eu z =
+          let values : wordsTerms p words ≡ keyDraws p random .values = ap (λ (d : Drawn). d .values) (sym e) in
+          let taken : groups ≡ keyDraws p random .groups = ap (λ (d : Drawn). d .groups) (sym e) in
+          rw (es, eo, eu, z .0, z .1, halves .x, halves .y, values, taken) (exit-accepted leaves p _ _ _ set exact
           (firstRefusal-last 9 _ (rw (le-ltb (length random) (secretLength p) room, e))))
-
--- both keys, of what stands in the work words
-pub keys-written : (p : Parameters) (groups : ℕ) (secret public : List ℕ) (used : ℕ) (work : List ℕ) {k u : ℕ} {s o zeros : List ℕ}
-    → s ≡ secretOf p (wordsX p work) (wordsY p work) → o ≡ publicIn p work → u ≡ secretLength p + qlen (p .q) * groups
-    → (k ≡ 0) × (zeros ≡ replicate (length work) 0)
-    → _≡_ {A = KeygenExit} (record { refusal = k; secret = s; public = o; used = u; work = zeros })
-    (keygenLeaves (accepted (keysIn p groups work)) secret public used work)
-unfolding keyPairOf
-keys-written p groups secret public used work es eo eu z = rw (es, eo, eu, z .0, z .1)

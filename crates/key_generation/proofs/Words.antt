@@ -1,10 +1,12 @@
 -- Why what is drawn can be packed and evaluated: secret elements have b bits, and the terms lie inside the work words.
 --
 --   termsEnd-room        the words of the terms, and one element more, lie inside the work words
+--   set-sizes            what the evaluation asks of n, qlen and the work words
 --   drawn-in             secret elements are small;  small-packs: small elements can be packed
 --   half-at              the elements of a half are those of its part of the work words;  half-ring: and below 16
 --   halves-drawn         u_x and u_y, one behind the other;  halves-kept: words that are as they were
 --   key-words            what is asked of the work words holds once all is drawn
+--   half-packed          a half packed into its octets
 --   terms-drawn          a run of draws lent the words of the terms leaves them there, and u_x and u_y as they were
 --   terms-cleared        the words of the terms and a cleared element behind them
 --   used-room            the octets used are among those lent
@@ -12,7 +14,7 @@
 use Prim.Native.Nat.{ℕ, _+_, _-_, _*_, _^_, _≤_, _<_}
 use native.Mathlib.Nat.{mul-le-mul-right, zero-add}
 use native.Mathlib.Omega.{arith}
-use mathlib.Core.Path.{_≡_, ap, sym, _∙_, subst}
+use mathlib.Core.Path.{_≡_, ap, sym, _∙_}
 use mathlib.Core.Bool.{true}
 use mathlib.Core.Logic.{⊎-elim}
 use mathlib.Core.List.{List, _++_}
@@ -21,11 +23,12 @@ use lib.Seq.{slice}
 use borrow.Rule.Slice.PartMut.{midOf, putMid, same-len-mid, mid-len}
 use Rattle.definitions.specs.Parameters.{Parameters, smallBits, qlen, monomialCount, smallLength, secretLength}
 use Rattle.definitions.specs.Ring.{elementOf, InRing}
-use Rattle.definitions.specs.Octets.{coefficientsFit}
+use Rattle.definitions.specs.Octets.{coefficientsFit, packed}
 use Rattle.definitions.specs.Draws.{candidates, draws, secretDrawn}
 use Rattle.definitions.specs.Calls.{keyDraws}
 use Rattle.definitions.specs.Demand3.{AcceptedSet, InSmallRing}
-use Rattle.definitions.proofs.Parameters.{Accepted, accepted-set, range-most, smallBits-power, smallBits-least, smallBits-most}
+use Rattle.definitions.proofs.Parameters.{Accepted, accepted-set, range-most, modulus-positive, modulus-word, qlen-least, qlen-most}
+use Rattle.definitions.proofs.Parameters.{smallBits-power, smallBits-least, smallBits-most}
 use Rattle.definitions.proofs.Octets.{coefficientsFit-true}
 use Rattle.definitions.proofs.Small.{unpacked-small}
 use Rattle.definitions.proofs.MadeKeys.{keyDraws-below}
@@ -33,8 +36,10 @@ use Rattle.draws.specs.Runs.{said, drawnAnswer}
 use Rattle.draws.specs.declared.Run.{Run}
 use Rattle.draws.proofs.Groups.{drawsAt-within}
 use Rattle.ring.specs.Work.{part}
+use Rattle.decoding.specs.Elements.{Sizes}
 use Rattle.key_generation.specs.Keys.{Follows, termsEnd, wordsTerms, HalvesDrawn, KeyWords}
-use Rattle.key_generation.proofs.Parts.{put-zeros, put-follows, follows-slice, follows-kept, slice-kept, slice-at}
+use Rattle.key_generation.proofs.Constant.{count-suc}
+use Rattle.key_generation.proofs.Parts.{lent-slice, put-zeros, put-follows, follows-slice, follows-kept, slice-kept, slice-at}
 
 pub used-room : (p : Parameters) (random : List ℕ) → secretLength p ≤ length random
     → secretLength p + qlen (p .q) * keyDraws p random .groups ≤ length random
@@ -49,7 +54,17 @@ module _ (p : Parameters) (a : Accepted p) where
   pub termsEnd-room : termsEnd p + p .n ≤ 8 * p .n
   termsEnd-room = omega (arith, mul-le-mul-right (p .n) others-most)
 
-  pub drawn-in : (random : List ℕ) → InSmallRing p (secretDrawn p random)
+  pub set-sizes : (work : List ℕ) → length work ≡ 8 * p .n → Sizes (p .n) (qlen (p .q)) work
+  set-sizes work e =
+      record {
+        places = omega (arith, a .ring-least);
+        most = a .ring-most;
+        octets-least = qlen-least (p .q) (modulus-positive p a) (modulus-word p a);
+        octets-most = qlen-most (p .q);
+        room = e;
+      }
+
+  drawn-in : (random : List ℕ) → InSmallRing p (secretDrawn p random)
   unfolding secretDrawn
   drawn-in random = unpacked-small p a (take (smallLength p) random)
 
@@ -121,18 +136,37 @@ terms-drawn p random work words run {start} {stop} es e room sized told =
       follows-kept at stop words work given (omega arith) f more,
     )
 
--- the work words with the constant's cleared: what is lent to be encoded, how many words, and the first two parts
+-- the work words with the constant's cleared, and what of them is lent to be encoded
+pub record TermsLent (p : Parameters) (work given lent : List ℕ) : Type 0 where
+  pub as-long : length given ≡ length work
+  pub kept : take (p .n + p .n) given ≡ take (p .n + p .n) work
+  pub words : lent ≡ wordsTerms p work ++ replicate (p .n) 0
+  pub many : length lent ≡ monomialCount (p .dx) * p .n
+
 pub terms-cleared : (p : Parameters) (work zeros : List ℕ) {stop : ℕ} → stop ≡ termsEnd p → stop + p .n ≤ length work
     → length zeros ≡ length (midOf stop (stop + p .n - stop) work) → zeros ≡ replicate (length (midOf stop (stop + p .n - stop) work)) 0
-    → (let given = putMid stop (stop + p .n - stop) work zeros in let lent = midOf (p .n + p .n) (stop + p .n - (p .n + p .n)) given in
-    (lent ≡ wordsTerms p work ++ replicate (p .n) 0) × (length lent ≡ (monomialCount (p .dx) - 1) * p .n + p .n)
-    × (take (p .n + p .n) given ≡ take (p .n + p .n) work))
+    → (let given = putMid stop (stop + p .n - stop) work zeros in TermsLent p work given (midOf (p .n + p .n) (stop + p .n - (p .n + p .n)) given))
 terms-cleared p work zeros {stop} e room same z =
     let given : List ℕ = putMid stop (stop + p .n - stop) work zeros in
     let left : stop + p .n - stop ≡ p .n = omega arith in
-    let f : Follows stop (stop + p .n) zeros work given = put-follows stop (stop + p .n) work (omega arith) room zeros same in (
-      rw (← e) (put-zeros (p .n + p .n) stop (p .n) work zeros (omega arith) room same
-          (z ∙ ap (λ (m : ℕ). replicate m 0) (mid-len stop (stop + p .n) work room ∙ left))),
-      mid-len (p .n + p .n) (stop + p .n) given (omega (arith, same-len-mid stop (stop + p .n - stop) work zeros same)) ∙ omega arith,
-      slice-kept 0 (p .n + p .n) stop work given (omega arith) (follows-kept stop (stop + p .n) zeros work given (omega arith) f (omega arith)),
-    )
+    let f : Follows stop (stop + p .n) zeros work given = put-follows stop (stop + p .n) work (omega arith) room zeros same in
+    let long : length given ≡ length work = same-len-mid stop (stop + p .n - stop) work zeros same in
+    record {
+      as-long = long;
+      kept = slice-kept 0 (p .n + p .n) stop work given (omega arith) (follows-kept stop (stop + p .n) zeros work given (omega arith) f (omega arith));
+      words =
+          rw (← e) (put-zeros (p .n + p .n) stop (p .n) work zeros (omega arith) room same
+          (z ∙ ap (λ (m : ℕ). replicate m 0) (mid-len stop (stop + p .n) work room ∙ left)));
+      many = mid-len (p .n + p .n) (stop + p .n) given (omega arith) ∙ omega (arith, ap (λ (x : ℕ). x * p .n) (count-suc (p .dx)));
+    }
+
+-- a half packed into the octets from a place on
+pub half-packed : (p : Parameters) (work secret last : List ℕ) (at to : ℕ) {b one : ℕ} → b ≡ smallBits (p .l) → one ≡ smallLength p
+    → at + p .n ≤ length work → to + one ≤ length secret → length last ≡ length (midOf to (to + one - to) secret)
+    → last ≡ packed b (length (midOf to (to + one - to) secret)) (midOf at (at + p .n - at) work)
+    → Follows to (to + smallLength p) (packed (smallBits (p .l)) (smallLength p) (slice at (at + p .n) work)) secret (putMid to (to + one - to) secret last)
+half-packed p work secret last at to {one = one} eb eo words room same made =
+    let left : to + one - to ≡ one = omega arith in
+    let octets : length (midOf to (to + one - to) secret) ≡ one = mid-len to (to + one) secret room ∙ left in
+    rw (← eb, ← eo, ← lent-slice at (at + p .n) work (omega arith) words, ← (rw octets at made))
+    (put-follows to (to + one) secret (omega arith) room last same)

@@ -6,21 +6,21 @@
 // words, u_x and u_y in the first two parts and the terms behind them, before an output is written. The contract cites keygenExit.
 ghost use mathlib.Core.Path.{_≡_};
 ghost use mathlib.Core.Bool.{true};
-ghost use mathlib.Core.List.{_++_};
-ghost use Prim.Native.Nat.{_+_, _*_, _^_, _≤_, _<_};
-ghost use lib.ListN.{length, take, drop, replicate};
+ghost use Prim.Native.Nat.{_+_, _*_, _≤_, _<_};
+ghost use lib.ListN.{length, take, drop};
 ghost use lib.Seq.{slice};
-ghost use Rattle.definitions.specs.Parameters.{smallBits, qlen, monomialCount, smallLength, secretLength};
+ghost use Rattle.definitions.specs.Parameters.{smallBits, monomialCount, smallLength, secretLength, publicLength};
 ghost use Rattle.definitions.specs.Ring.{InRing};
-ghost use Rattle.definitions.specs.Octets.{encoded, packed};
+ghost use Rattle.definitions.specs.Octets.{decoded, coefficientsFit, packed};
 ghost use Rattle.definitions.specs.Draws.{secretDrawn};
-ghost use Rattle.definitions.specs.Calls.{keysExact, elementsFit, keyDraws};
+ghost use Rattle.definitions.specs.Calls.{keysExact, keyDraws};
 ghost use Rattle.definitions.specs.Contracts.{before, after, Makes};
 ghost use Rattle.definitions.specs.Demand3.{AcceptedSet, InSmallRing, secretOf};
 ghost use Rattle.parameters.specs.Answers.{setFrom};
 ghost use Rattle.draws.specs.Runs.{said, drawnAnswer};
 ghost use Rattle.ring.specs.Work.{part};
-ghost use Rattle.key_generation.specs.Keys.{Follows, termsEnd, termsLength, wordsX, wordsY, wordsTerms, HalvesDrawn, KeyWords, withConstant, publicIn, Writes};
+ghost use Rattle.decoding.specs.Elements.{Sizes};
+ghost use Rattle.key_generation.specs.Keys.{Follows, termsEnd, wordsX, wordsY, wordsTerms, HalvesDrawn, KeyWords, withConstant, publicIn};
 use draws::Run;
 use parameters::Parameters;
 use parameters::refusals;
@@ -39,8 +39,10 @@ fn draw_halves(p: Parameters, random: &[u8], work: &mut [u32])
     requires { ⌜ (smallLength (setFrom p) + smallLength (setFrom p) ≤ length (now random)) × (length (now work) ≡ 8 * p .n) ⌝ }
     ensures { λ _. ⌜ HalvesDrawn (setFrom p) (before random) (after work) ⌝ }
 {
+    let n = p.n as usize;
+    let one = lengths::small_length(p);
     draw_half(p, random, 0, work, 0);
-    draw_half(p, random, lengths::small_length(p), work, p.n as usize);
+    draw_half(p, random, one, work, n);
 }
 
 // Where the words of the terms end: all terms but the constant, behind the first two parts.
@@ -79,65 +81,39 @@ fn write_secret(p: Parameters, secret: &mut [u8], work: &[u32])
     requires { ⌜ KeyWords (setFrom p) (now work) × (length (now secret) ≡ smallLength (setFrom p) + smallLength (setFrom p)) ⌝ }
     ensures { λ _. ⌜ after secret ≡ secretOf (setFrom p) (wordsX (setFrom p) (before work)) (wordsY (setFrom p) (before work)) ⌝ }
 {
-    write_half(p, work, 0, secret, 0);
-    write_half(p, work, p.n as usize, secret, lengths::small_length(p));
-}
-
-// The octets of the terms, and of 0 for the constant.
-fn write_terms(p: Parameters, public: &mut [u8], work: &mut [u32])
-    requires { ⌜ AcceptedSet (setFrom p) × (length (now public) ≡ termsLength (setFrom p) + p .n * qlen (p .q)) × (length (now work) ≡ 8 * p .n) ⌝ }
-    ensures { λ _. ⌜ after public ≡ encoded (qlen (p .q)) (wordsTerms (setFrom p) (before work) ++ replicate (p .n) 0) ⌝ }
-    ensures { λ _. ⌜ take (p .n + p .n) (after work) ≡ take (p .n + p .n) (before work) ⌝ }
-{
     let n = p.n as usize;
-    let at = n + n;
-    let stop = terms_end(p);
-    let end = stop + n;
-    ring::clear(&mut work[stop..end]);
-    encoding::encode(&work[at..end], lengths::octets_of_coefficient(p.q), public);
+    let one = lengths::small_length(p);
+    write_half(p, work, 0, secret, 0);
+    write_half(p, work, n, secret, one);
 }
 
 // The octets of the constant that makes the secret in the first two parts of the work words a zero of a key whose constant is 0.
-fn write_constant(p: Parameters, public: &mut [u8], work: &mut [u32])
-    requires { ⌜ AcceptedSet (setFrom p) × (length (now public) ≡ termsLength (setFrom p) + p .n * qlen (p .q)) × (length (now work) ≡ 8 * p .n) ⌝ }
-    requires { ⌜ (elementsFit (setFrom p) (monomialCount (p .dx)) (now public) ≡ true) × InRing 16 (p .n) (part (now work) 0) × InRing 16 (p .n) (part (now work) (p .n)) ⌝ }
-    ensures { λ _. ⌜ after public ≡ withConstant (setFrom p) (before public) (before work) ⌝ }
+fn write_constant(public: &mut [u8], d: usize, n: usize, qlen: usize, q: u32, work: &mut [u32])
+    requires { ⌜ Sizes n qlen (now work) × (d ≤ 8) × (length (now public) ≡ monomialCount d * n * qlen) × (16 ≤ q) × (q < 2147483648) ⌝ }
+    requires { ⌜ (coefficientsFit q (decoded qlen (monomialCount d * n) (now public)) ≡ true) × InRing 16 n (part (now work) 0) × InRing 16 n (part (now work) n) ⌝ }
+    ensures { λ _. ⌜ after public ≡ withConstant d n qlen q (before public) (before work) ⌝ }
 {
-    let n = p.n as usize;
-    let qlen = lengths::octets_of_coefficient(p.q);
-    values::evaluate(public, p.dx as usize, n, qlen, p.q, work);
+    values::evaluate(public, d, n, qlen, q, work);
     let at = 2 * n;
     let stop = at + n;
-    ring::negate(work, at, n, p.q);
+    ring::negate(work, at, n, q);
     let from = public.len() - n * qlen;
     encoding::encode(&work[at..stop], qlen, &mut public[from..]);
 }
 
-// The public key's octets.
+// The public key's octets: those of the terms, and of 0 for the constant, until it is known.
 fn write_public(p: Parameters, public: &mut [u8], work: &mut [u32])
-    requires { ⌜ KeyWords (setFrom p) (now work) × (length (now public) ≡ termsLength (setFrom p) + p .n * qlen (p .q)) ⌝ }
+    requires { ⌜ KeyWords (setFrom p) (now work) × (length (now public) ≡ publicLength (setFrom p)) ⌝ }
     ensures { λ _. ⌜ after public ≡ publicIn (setFrom p) (before work) ⌝ }
 {
-    write_terms(p, public, work);
-    write_constant(p, public, work);
-}
-
-// With all drawn: both keys, and how many octets they took.
-fn keygen_drawn(
-    p: Parameters,
-    groups: usize,
-    secret: &mut [u8],
-    public: &mut [u8],
-    work: &mut [u32],
-    used: &mut u64,
-) -> u32
-    requires { ⌜ KeyWords (setFrom p) (now work) × (length (now secret) ≡ smallLength (setFrom p) + smallLength (setFrom p)) × (length (now public) ≡ termsLength (setFrom p) + p .n * qlen (p .q)) × (secretLength (setFrom p) + qlen (p .q) * groups < 2 ^ 64) ⌝ }
-    ensures { λ r. ⌜ Writes (setFrom p) groups secret public work used r ⌝ }
-{
-    write_secret(p, secret, work);
-    write_public(p, public, work);
-    *used = (lengths::secret_length(p) + lengths::octets_of_coefficient(p.q) * groups) as u64;
-    ring::cleared(work, 0)
+    let n = p.n as usize;
+    let qlen = lengths::octets_of_coefficient(p.q);
+    let at = n + n;
+    let stop = terms_end(p);
+    let end = stop + n;
+    ring::clear(&mut work[stop..end]);
+    encoding::encode(&work[at..end], qlen, public);
+    write_constant(public, p.dx as usize, n, qlen, p.q, work);
 }
 
 // With the octets of the secret counted: all is drawn before an output is written.
@@ -156,7 +132,12 @@ fn keygen_counted(
     let Run::Complete(groups) = draw_terms(p, random, work) else {
         return ring::cleared(work, refusals::EXHAUSTED);
     };
-    keygen_drawn(p, groups, secret, public, work, used)
+    write_secret(p, secret, work);
+    write_public(p, public, work);
+    let start = lengths::secret_length(p);
+    let taken = lengths::octets_of_coefficient(p.q) * groups;
+    *used = (start + taken) as u64;
+    ring::cleared(work, 0)
 }
 
 pub fn keygen(

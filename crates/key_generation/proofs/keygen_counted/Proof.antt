@@ -1,20 +1,19 @@
 -- `keygen_counted` is right because what it refuses leaves the outputs as they were, and all is drawn where it writes them.
 -- Assumes nothing.
-use Prim.Native.Nat.{ℕ, _+_, _*_}
+use Prim.Native.Nat.{ℕ, _+_, _*_, _^_, _<_}
 use native.Mathlib.Omega.{arith}
-use mathlib.Core.Path.{_≡_, sym, ap, _∙_}
+use mathlib.Core.Path.{_≡_, sym, ap, ap₂, _∙_}
 use mathlib.Core.Bool.{true}
 use lib.ListN.{length, replicate}
 use borrow.Author.Needs.{needs}
-use Rattle.definitions.specs.Parameters.{qlen, smallLength, secretLength, workLength}
+use Rattle.definitions.specs.Parameters.{qlen, smallLength, secretLength, publicLength, workLength}
 use Rattle.definitions.specs.Draws.{Drawn}
 use Rattle.definitions.specs.Calls.{keyDraws}
 use Rattle.definitions.proofs.Calls.{keysExact-told}
 use Rattle.definitions.proofs.Parameters.{secretLength-halves}
 use Rattle.parameters.specs.Answers.{setFrom}
 use Rattle.draws.proofs.Runs.{said-complete, said-exhausted}
-use Rattle.key_generation.specs.Keys.{termsLength, wordsTerms, HalvesDrawn}
-use Rattle.key_generation.proofs.Constant.{publicLength-front}
+use Rattle.key_generation.specs.Keys.{wordsTerms, HalvesDrawn, KeyWords}
 use Rattle.key_generation.proofs.Words.{halves-kept, key-words, used-room}
 use Rattle.key_generation.proofs.Returns.{keygen-exhausted, keygen-written}
 use Rattle.key_generation.proofs.keygen_counted.Statement.{statement}
@@ -29,15 +28,21 @@ halves c = c .before .before .before .before
 abbrev drawn : tie.After-known-told → tie.After-draw-terms
 drawn c = c .before .before .before .before .before
 
+abbrev told : tie.After-write-secret → tie.After-known-told
+told c = c .before .before .before
+
+abbrev first : tie.After-write-public → tie.After-write-secret
+first c = c .before .before .before .before .before
+
+abbrev second : tie.After-secret-length → tie.After-write-public
+second c = c .before .before .before .before .before
+
 exact : (c : tie.Start)
     → (let p = setFrom (c .args .p) in
-    (length (c .args .secret .now) ≡ smallLength p + smallLength p)
-    × (length (c .args .public .now) ≡ termsLength p + p .n * qlen (p .q)) × (length (c .args .work .now) ≡ 8 * p .n))
+    (length (c .args .secret .now) ≡ smallLength p + smallLength p) × (length (c .args .public .now) ≡ publicLength p)
+    × (length (c .args .work .now) ≡ 8 * p .n))
 unfolding secretLength workLength
-exact c =
-    let p = setFrom (c .args .p) in
-    let told = keysExact-told p (c .pre .1) in
-    (told .0, told .1 ∙ publicLength-front p, told .2)
+exact c = keysExact-told (setFrom (c .args .p)) (c .pre .1)
 
 -- the work words keep their length over both draws
 as-long : (c : tie.After-draw-terms) → length (c .draw-terms .last .1 .1 .0) ≡ length (start (halves c) .args .work .now)
@@ -73,26 +78,52 @@ terms : (c : tie.After-known-told)
     ≡ record { values = wordsTerms (setFrom (s .args .p)) (drawn c .draw-terms .last .1 .1 .0); groups = c .before .groups .given .0 .0; enough = true })
 terms c = said-complete _ _ (c .before .groups .given .1) (drawn c .draw-terms .ensures .0)
 
-keygen-drawn-requires : tie.Need-keygen-drawn-requires
-keygen-drawn-requires c κs =
-    let k = c .before .before .before .before in
-    let d = drawn k in
+ready : (c : tie.After-known-told) → KeyWords (setFrom (start (halves (drawn c)) .args .p)) (drawn c .draw-terms .last .1 .1 .0)
+ready c =
+    let d = drawn c in
     let s = start (halves d) in
-    let p = setFrom (s .args .p) in (
-      key-words p (s .args .random .now) _ (s .pre .0) (as-long d ∙ exact s .2) (secret d) (ap (λ (x : Drawn). x .values) (sym (terms k))),
-      exact s .0,
-      exact s .1,
-      omega (arith, used-room p (s .args .random .now) (s .pre .2), ap (λ (x : Drawn). qlen (p .q) * x .groups) (terms k), s .good .1 .0 .1),
-    )
+    key-words (setFrom (s .args .p)) (s .args .random .now) _ (s .pre .0) (as-long d ∙ exact s .2) (secret d)
+    (ap (λ (x : Drawn). x .values) (sym (terms c)))
+
+write-secret-requires : tie.Need-write-secret-requires
+write-secret-requires c κs = let k = c .before .before in (ready k, exact (start (halves (drawn k))) .0)
+
+write-public-requires : tie.Need-write-public-requires
+write-public-requires c κs = let k = told (c .before .before .before .before) in (ready k, exact (start (halves (drawn k))) .1)
+
+counted : (c : tie.After-octets-of-coefficient)
+    → (let k = told (first (second (c .before))) in let p = setFrom (start (halves (drawn k)) .args .p) in let groups = k .before .groups .given .0 .0 in
+    c .before .secret-length .result + c .octets-of-coefficient .result * groups ≡ secretLength p + qlen (p .q) * groups)
+counted c =
+    ap₂ (λ (a b : ℕ). a + b * told (first (second (c .before))) .before .groups .given .0 .0)
+    (c .before .secret-length .ensures) (c .octets-of-coefficient .ensures)
+
+fits : (c : tie.After-octets-of-coefficient)
+    → c .before .secret-length .result + c .octets-of-coefficient .result * told (first (second (c .before))) .before .groups .given .0 .0 < 2 ^ 64
+fits c =
+    let k = told (first (second (c .before))) in
+    let s = start (halves (drawn k)) in
+    let p = setFrom (s .args .p) in
+    omega (arith, counted c, used-room p (s .args .random .now) (s .pre .2), ap (λ (x : Drawn). qlen (p .q) * x .groups) (terms k), s .good .1 .0 .1)
+
+mul-taken : tie.Need-mul-taken
+mul-taken c = omega (arith, fits c)
+
+add-used : tie.Need-add-used
+add-used c = omega (arith, fits c)
 
 returns-2 : tie.Need-returns-2
 returns-2 c =
-    let k = c .before .before .before .before .before .before .before .before .before .before .before in
-    let s = start (halves (drawn k)) in
+    let end = c .before .before .cleared2 .ensures in
+    let o = c .before .before .before .before in
+    let public = second (o .before) in
+    let k = told (first public) in
+    let d = drawn k in
+    let s = start (halves d) in
     let a = s .args in
-    c .before .before .before .before .before .before .keygen-drawn .ensures
-    ∙ keygen-written (setFrom (a .p)) (a .random .now) (a .secret .now) (a .public .now) (a .used .now) (a .work .now) (s .pre .0) (s .pre .1) (s .pre .2)
-    _ _ (as-long (drawn k)) (secret (drawn k)) (terms k)
+    keygen-written (setFrom (a .p)) (a .random .now) (a .secret .now) (a .public .now) (a .used .now) (a .work .now) (s .pre .0) (s .pre .1) (s .pre .2)
+    (d .draw-terms .last .1 .1 .0) _ (secret d) (terms k) (first public .write-secret .ensures) (public .write-public .ensures) (counted o)
+    (end .0, end .1 ∙ ap (λ (m : ℕ). replicate m 0) (public .write-public .kept .1 .1 .0 ∙ as-long d))
 
 pub keygen-counted-spec : {M : Type 1} → statement M
 keygen-counted-spec =
@@ -105,7 +136,13 @@ keygen-counted-spec =
     (λ c κs. search needs)
     (λ c. search needs)
     returns
-    keygen-drawn-requires
+    write-secret-requires
+    write-public-requires
+    (λ c κs. search needs)
+    (λ c κs. search needs)
+    mul-taken
+    add-used
+    (λ c κs. search needs)
     (λ c. search needs)
     (λ c. search needs)
     (λ c. search needs)
