@@ -1,6 +1,6 @@
 // The lines of a text, answered as 01, "roomsheet", says, however the text is cut: the ended lines in front of a buffer are answered as far as
 // there is room, what is left is kept for the next read, and a last line may lack its newline. A malformed line is refusal 11; refusals are
-// text here, as roomsheet prints them. The contracts cite the definitions' lineAnswer and roomsheet; proofs/Streams.antt shows that a whole
+// text here, as roomsheet prints them. The contracts cite the definitions' lineAnswer and roomsheet; proofs/Texts.antt shows that a whole
 // run prints roomsheet of the whole input.
 use parameters::Checked;
 use parameters::Parameters;

@@ -4,7 +4,7 @@ use Prim.Native.Nat.{_-_}
 use mathlib.Core.Bool.{true≢false, false≢true}
 use native.Mathlib.Omega.{arith}
 use lib.ListN.{length}
-use Rattle.roomsheet_lines.proofs.Answering.{Answering, answering-start, end-le, answering-done, answering-next, answering-onward}
+use Rattle.roomsheet_lines.proofs.Buffers.{Answering, answering-start, end-le, answering-done, answering-next, answering-onward}
 use Rattle.roomsheet_lines.proofs.answer_lines.Statement.{statement}
 use Rattle.roomsheet_lines.proofs.answer_lines.Tie as tie
 

@@ -2,11 +2,9 @@
 -- with those of the rest are the line's.
 -- Assumes nothing.
 use Prim.Native.Nat.{_-_}
-use mathlib.Core.Path.{sym, ap, _∙_}
 use native.Mathlib.Omega.{arith}
 use lib.ListN.{length-set}
 use borrow.Author.Needs.{needs}
-use Rattle.roomsheet_parse.specs.Numbers.{numberAs}
 use Rattle.roomsheet_parse.proofs.Fields.{Progress, progress-start, long-read, progress-over, progress-spoiled, progress-end, progress-next}
 use Rattle.roomsheet_parse.proofs.parse_numbers.Statement.{statement}
 use Rattle.roomsheet_parse.proofs.parse_numbers.Tie as tie
@@ -32,7 +30,7 @@ same-length c = c .before .before .before .before .loop .inv .kept
 returns-2 : tie.Need-returns-2 Inv-loop μ-loop
 returns-2 c =
     progress-spoiled _ _ _ _ _ _ (c .before .before .before .before .loop .inv) (c .before .before .before .loop-test .taken)
-    (ap numberAs (sym (c .enum-told .given .1)) ∙ c .before .before .parse-number .ensures)
+    (rw (c .enum-told .given .1) at (c .before .before .parse-number .ensures))
 
 same-length-2 : tie.Need-same-length-2 Inv-loop μ-loop
 same-length-2 c = simp length-set (c .before .before .before .before .before .before .loop .inv .kept)
@@ -40,12 +38,12 @@ same-length-2 c = simp length-set (c .before .before .before .before .before .be
 returns-3 : tie.Need-returns-3 Inv-loop μ-loop
 returns-3 c =
     progress-end _ _ _ _ _ _ (c .before .before .before .before .before .before .loop .inv) (c .before .before .before .before .before .loop-test .taken) _ _
-    (ap numberAs (sym (c .before .before .value .given .1)) ∙ c .before .before .before .before .parse-number .ensures) (c .if2 .taken)
+    (rw (c .before .before .value .given .1) at (c .before .before .before .before .parse-number .ensures)) (c .if2 .taken)
 
 loop-again : tie.Need-loop-again Inv-loop μ-loop
 loop-again c =
     progress-next _ _ _ _ _ _ (c .before .before .before .before .before .before .loop .inv) (c .before .before .before .before .before .loop-test .taken) _ _
-    (ap numberAs (sym (c .before .before .value .given .1)) ∙ c .before .before .before .before .parse-number .ensures) (c .if2 .left)
+    (rw (c .before .before .value .given .1) at (c .before .before .before .before .parse-number .ensures)) (c .if2 .left)
 
 add-at : tie.Need-add-at Inv-loop μ-loop
 add-at c = omega (arith, loop-again c .within)
