@@ -21,12 +21,6 @@ returns c = long-read _ _ _ (c .if1 .taken)
 loop-holds : tie.Need-loop-holds Inv-loop μ-loop
 loop-holds c = progress-start _ _ _ (c .if1 .left) (c .before .before .before .pre)
 
-parse-number-requires : tie.Need-parse-number-requires Inv-loop μ-loop
-parse-number-requires c κs = c .before .loop .inv .within
-
-same-length : tie.Need-same-length Inv-loop μ-loop
-same-length c = c .before .before .before .before .loop .inv .kept
-
 returns-2 : tie.Need-returns-2 Inv-loop μ-loop
 returns-2 c =
     progress-spoiled _ _ _ _ _ _ (c .before .before .before .before .loop .inv) (c .before .before .before .loop-test .taken)
@@ -48,15 +42,12 @@ loop-again c =
 add-at : tie.Need-add-at Inv-loop μ-loop
 add-at c = omega (arith, loop-again c .within)
 
-same-length-3 : tie.Need-same-length-3 Inv-loop μ-loop
-same-length-3 c = c .before .loop .inv .kept
-
 returns-4 : tie.Need-returns-4 Inv-loop μ-loop
 returns-4 c = progress-over _ _ _ _ _ _ (c .before .loop .inv) (c .loop-test .left)
 
 pub parse-numbers-spec : {M : Type 1} → statement M
 parse-numbers-spec =
     tie.close
-    (tie.spec Inv-loop μ-loop returns loop-holds parse-number-requires (λ c. search needs) (λ c. search needs) same-length returns-2
-    (λ c. search needs) (λ c. search needs) (λ c. search needs) same-length-2 returns-3 add-at (λ c. search needs) loop-again same-length-3
+    (tie.spec Inv-loop μ-loop returns loop-holds (λ c κs. search needs) (λ c. search needs) (λ c. search needs) (λ c. search needs) returns-2
+    (λ c. search needs) (λ c. search needs) (λ c. search needs) same-length-2 returns-3 add-at (λ c. search needs) loop-again (λ c. search needs)
     returns-4)
