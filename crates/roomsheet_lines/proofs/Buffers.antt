@@ -1,18 +1,17 @@
 -- What the loops over the lines of a text and over a buffer keep, and what is kept of a chunk.
 --
---   Answering            where the lines up to a place are answered;  answering-start, -next, -done, -onward: where it begins, a line on,
---                        that no ended line is left, and that some line is answered
+--   Answering            where the lines up to a place are answered;  answering-start, -next, -done: where it begins, a line on, and
+--                        that no ended line is left;  stopped-..: what is told where it stops
 --   Moving               where the first i octets are moved;  moving-start, -next, -end
 --   chunk-..             what is kept of a chunk stands for what is left of it
 -- Assumes nothing.
-use Prim.Native.Nat.{ℕ, suc, _+_, _-_, _≤_, _<_, min}
+use Prim.Native.Nat.{ℕ, suc, _+_, _-_, _≤_, _<_}
 use native.Mathlib.Nat.{pos-of-ne-zero}
 use native.Mathlib.Numerals.{add-one}
 use native.Mathlib.Omega.{arith}
-use native.Mathlib.Decide.{decLt}
 use mathlib.Core.Path.{_≡_, refl, sym, ap, ap₂, _∙_}
-use mathlib.Core.Logic.{_⊎_, inl, inr, ⊎-elim}
-use mathlib.Core.Bool.{Bool, true, false, cond, false≢true}
+use mathlib.Core.Logic.{⊎-elim}
+use mathlib.Core.Bool.{Bool, true, false, true≢false, false≢true}
 use mathlib.Core.List.{List, [], _∷_, _++_, append-nil}
 use lib.ListN.{length, getD, take, drop, set, length-drop, length-set, take-append-drop}
 use lib.Seq.{length-take-le, take-all, take-append-le, drop-append-le, drop-drop, take-suc, take-suc-set, getD-drop, getD-set-other}
@@ -20,7 +19,7 @@ use Rattle.definitions.specs.Roomsheet.{Text}
 use Rattle.roomsheet_parse.specs.Parts.{upTo, past, Without}
 use Rattle.roomsheet_parse.proofs.Parts.{length-upTo, take-upTo, past-drop, upTo-whole, without-take}
 use Rattle.roomsheet_print.specs.Appended.{Appended}
-use Rattle.roomsheet_lines.specs.Answered.{Answered, LinesAnswered, ChunkAnswered}
+use Rattle.roomsheet_lines.specs.Answered.{Answered, LinesAnswered, Keeps, ChunkAnswered}
 use Rattle.roomsheet_lines.specs.declared.Lines.{Lines}
 use Rattle.roomsheet_lines.proofs.Texts.{lineText, lineText-le, answered-none, answered-then, answered-line, answered-cut}
 
@@ -68,10 +67,24 @@ module _ (text before out : List ℕ) (used written : ℕ) (a : Answering text b
           fresh = λ e. let z : ⊥ = omega arith in absurd z;
         }
 
--- with room for an answer at the start, a line is answered before the room is too little
-pub answering-onward : (text before out : List ℕ) (used written : ℕ) → Answering text before out used written → length out - written < 33 → 33 ≤ length out → 0 < used
-answering-onward text before out used written a full room =
-    pos-of-ne-zero (λ e. let f = a .fresh e in let z : ⊥ = omega arith in z)
+-- what the loop tells where it stops: with no ended line left, or with too little room, but some line answered
+module _ (text before out : List ℕ) (used written : ℕ) (a : Answering text before out used written) where
+  stopped : (done : Bool) → (done ≡ true → Without 10 (drop used text)) → (done ≡ false → length out - written < 33)
+      → LinesAnswered text (record { used = used; written = written; done = done }) out
+  stopped done none full =
+      record {
+        used-le = a .used-le;
+        written-le = a .written-le;
+        answered = a .answered;
+        unended = none;
+        onward = λ e room. pos-of-ne-zero (λ z. let f = a .fresh z in let few = full e in let w : ⊥ = omega arith in w);
+      }
+
+  pub stopped-done : Without 10 (drop used text) → LinesAnswered text (record { used = used; written = written; done = true }) out
+  stopped-done none = stopped true (λ _. none) (λ e. absurd (true≢false e))
+
+  pub stopped-full : length out - written < 33 → LinesAnswered text (record { used = used; written = written; done = false }) out
+  stopped-full full = stopped false (λ e. absurd (false≢true e)) (λ _. full)
 
 -- ---- octets moved to the front
 
@@ -107,29 +120,13 @@ moving-end before text from count i m h =
 
 -- ---- what is kept of a chunk
 
--- all of the rest, or as much of a line without its end as shows it malformed
-kept-cases : (done : Bool) (rest k : ℕ) → k ≡ cond done (min rest 81) rest → (k ≡ rest) ⊎ ((done ≡ true) × ((k ≡ 81) × (81 ≤ rest)))
-kept-cases true rest k e =
-    elim (decLt 81 rest) [
-      | yes h ↦ inr (refl, (omega arith, omega arith))
-      | no g ↦ inl (omega arith)
-    ]
-kept-cases false rest k e = inl e
-
-kept-short : (done : Bool) (rest k : ℕ) → k ≡ cond done (min rest 81) rest → done ≡ true → k ≤ 81
-kept-short true rest k e t = omega arith
-kept-short false rest k e t = absurd (false≢true t)
-
 pub used-within : (text : List ℕ) (have : ℕ) → have ≤ length text → (r : Lines) (out : List ℕ) → LinesAnswered (take have text) r out → r .used ≤ have
 used-within text have fits r out a = omega (arith, a, length-take-le have text fits)
 
 module _ (text : List ℕ) (have : ℕ) (fits : have ≤ length text) (r : Lines) (out : List ℕ) (a : LinesAnswered (take have text) r out)
-    (k : ℕ) (kept : k ≡ cond (r .done) (min (have - r .used) 81) (have - r .used)) where
-  kept-within : k ≤ have - r .used
-  kept-within = ⊎-elim (λ e. omega arith) (λ e. omega arith) (kept-cases (r .done) (have - r .used) k kept)
-
+    (k : ℕ) (kept : Keeps (r .done) (have - r .used) k) where
   pub moved-within : r .used + k ≤ length text
-  moved-within = omega (arith, used-within text have fits r out a, kept-within)
+  moved-within = omega (arith, used-within text have fits r out a, kept .within)
 
   rest : Text
   rest = drop (r .used) (take have text)
@@ -144,24 +141,24 @@ module _ (text : List ℕ) (have : ℕ) (fits : have ≤ length text) (r : Lines
   take-rest =
       ap (λ (t : Text). take k (drop (r .used) t)) (sym (take-append-drop have text))
       ∙ ap (take k) (drop-append-le (r .used) (take have text) (drop have text) (a .used-le))
-      ∙ take-append-le k (drop (r .used) (take have text)) (drop have text) (omega (arith, kept-within, length-rest))
+      ∙ take-append-le k (drop (r .used) (take have text)) (drop have text) (omega (arith, kept .within, length-rest))
 
   kept-answered : Answered (take have text) (take (r .written) out) (take k rest)
   unfolding rest
   kept-answered =
       ⊎-elim
       (λ e. rw (take-all k rest (omega (arith, length-rest))) (a .answered))
-      (λ e. rw (e .1 .0, ← append-nil (take (r .written) out)) (answered-then (take have text) rest (take 81 rest) (take (r .written) out) [] (a .answered) (answered-cut rest (a .unended (e .0)) (omega (arith, length-rest)))))
-      (kept-cases (r .done) (have - r .used) k kept)
+      (λ e. rw (e .1, ← append-nil (take (r .written) out)) (answered-then (take have text) rest (take 81 rest) (take (r .written) out) [] (a .answered) (answered-cut rest (a .unended (e .0)) (omega (arith, length-rest, kept .within)))))
+      (kept .whole)
 
   pub chunk-answered : (after : List ℕ) → take k after ≡ take k (drop (r .used) text) → ChunkAnswered (take have text) (record { kept = k; written = r .written; done = r .done }) after out
   unfolding rest
   chunk-answered after moved =
       record {
-        kept-le = omega (arith, kept-within, length-take-le have text fits);
+        kept-le = omega (arith, kept .within, length-take-le have text fits);
         written-le = a .written-le;
         answered = rw (moved, take-rest) kept-answered;
         unended = λ d. rw (moved, take-rest) (without-take 10 k rest (a .unended d));
-        short = kept-short (r .done) (have - r .used) k kept;
-        onward = λ d room. omega (arith, a .onward d room, kept-within, used-within text have fits r out a, length-take-le have text fits);
+        short = kept .short;
+        onward = λ d room. omega (arith, a .onward d room, kept .within, used-within text have fits r out a, length-take-le have text fits);
       }

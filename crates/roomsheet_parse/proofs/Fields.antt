@@ -22,7 +22,7 @@ use Rattle.roomsheet_parse.specs.Parts.{upTo, past, Without}
 use Rattle.roomsheet_parse.specs.Numbers.{fieldAt, Finds, NumbersRead}
 use Rattle.roomsheet_parse.specs.declared.Number.{Number}
 use Rattle.roomsheet_parse.proofs.Parts.{length-upTo, upTo-whole, past-drop, split-last, split-more}
-use Rattle.roomsheet_parse.proofs.Numbers.{every-cons}
+use Rattle.roomsheet_parse.proofs.Numbers.{every-cons, exchange}
 
 -- ---- so many numbers
 
@@ -34,11 +34,6 @@ partsFit (suc k) (part ∷ parts) = isNumber part && partsFit k parts
 
 abbrev pub numbersFit : ℕ → Text → Bool
 numbersFit count text = partsFit count (split 32 text)
-
-exchange : (a b c : Bool) → (a && (b && c)) ≡ (b && (a && c))
-exchange true b c = refl
-exchange false true c = refl
-exchange false false c = refl
 
 partsFit-is : (count : ℕ) (parts : List Text) → (eqb (length parts) count && every count (λ i. isNumber (getD parts i []))) ≡ partsFit count parts
 unfolding every

@@ -102,11 +102,10 @@ module _ (line : Text) (from value i : ℕ) (r : Reading line from value i) wher
 
 -- ---- a number, by its digits
 
-swapped : (a b c d : Bool) → (a && (b && (c && d))) ≡ (a && (c && (b && d)))
-swapped false b c d = refl
-swapped true true c d = refl
-swapped true false true d = refl
-swapped true false false d = refl
+pub exchange : (a b c : Bool) → (a && (b && c)) ≡ (b && (a && c))
+exchange true b c = refl
+exchange false true c = refl
+exchange false false c = refl
 
 -- no zero in front of others
 abbrev firstFits : Text → Bool
@@ -115,7 +114,8 @@ firstFits field = eqb (length field) 1 || leb 49 (getD field 0 0)
 isNumber-digits : (field : Text) → isNumber field ≡ (leb 1 (length field) && (firstFits field && digitsFit field))
 unfolding isNumber digitsFit
 isNumber-digits field =
-    swapped (leb 1 (length field)) (every (length field) (λ i. isDigit (getD field i 0))) (firstFits field) (leb (decimal field) 4294967295)
+    ap (λ (b : Bool). leb 1 (length field) && b)
+    (exchange (every (length field) (λ i. isDigit (getD field i 0))) (firstFits field) (leb (decimal field) 4294967295))
 
 module _ (field : Text) where
   pub number-none : digitsFit field ≡ false → isNumber field ≡ false

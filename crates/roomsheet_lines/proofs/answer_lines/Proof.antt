@@ -1,11 +1,10 @@
 -- `answer_lines` meets its contract: at each turn the lines up to used are answered, and the next one ends at the newline found.
 -- Assumes nothing.
 use Prim.Native.Nat.{_-_}
-use mathlib.Core.Bool.{true≢false, false≢true}
 use native.Mathlib.Omega.{arith}
 use lib.ListN.{length}
 use borrow.Author.Needs.{needs}
-use Rattle.roomsheet_lines.proofs.Buffers.{Answering, answering-start, end-le, answering-done, answering-next, answering-onward}
+use Rattle.roomsheet_lines.proofs.Buffers.{Answering, answering-start, end-le, answering-done, answering-next, stopped-done, stopped-full}
 use Rattle.roomsheet_lines.proofs.answer_lines.Statement.{statement}
 use Rattle.roomsheet_lines.proofs.answer_lines.Tie as tie
 
@@ -21,13 +20,7 @@ loop-holds c = answering-start _ _
 returns : tie.Need-returns Inv-loop μ-loop
 returns c =
     let inv = c .before .before .before .loop .inv in
-    record {
-      used-le = inv .used-le;
-      written-le = inv .written-le;
-      answered = inv .answered;
-      unended = λ _. answering-done _ _ _ _ _ inv _ (c .before .find-newline .ensures) (c .if1 .taken);
-      onward = λ e room. absurd (true≢false e);
-    }
+    stopped-done _ _ _ _ _ inv (answering-done _ _ _ _ _ inv _ (c .before .find-newline .ensures) (c .if1 .taken))
 
 part-answer-line-end : tie.Need-part-answer-line-end Inv-loop μ-loop
 part-answer-line-end c = end-le _ _ _ _ _ (c .before .before .before .loop .inv) _ (c .before .find-newline .ensures)
@@ -44,15 +37,7 @@ loop-less : tie.Need-loop-less Inv-loop μ-loop
 loop-less c = omega (arith, loop-again c .used-le, c .before .before .before .before .before .before .find-newline .ensures)
 
 returns-2 : tie.Need-returns-2 Inv-loop μ-loop
-returns-2 c =
-    let inv = c .before .loop .inv in
-    record {
-      used-le = inv .used-le;
-      written-le = inv .written-le;
-      answered = inv .answered;
-      unended = λ e. absurd (false≢true e);
-      onward = λ e room. answering-onward _ _ _ _ _ inv (c .loop-test .left) room;
-    }
+returns-2 c = stopped-full _ _ _ _ _ (c .before .loop .inv) (c .loop-test .left)
 
 pub answer-lines-spec : {M : Type 1} → statement M
 answer-lines-spec =
