@@ -4,12 +4,14 @@
 --                    then what it prints for the other
 --   LinesAnswered    what answering the ended lines of a text leaves: octets used and written, and whether no ended line is left; with room
 --                    for an answer some line is answered before it stops
+--   Keeps            how many octets are kept of the rest: all, or 81 of a line without its end, which show it malformed
 --   ChunkAnswered    the same of a buffer whose front is the text: what it keeps stands in front again, at most 81 octets once it is done
 --   Run              a whole run: after some pending octets, chunk after chunk, then the end
 -- Assumes nothing.
 use Prim.Native.Nat.{ℕ, _≤_, _<_}
 use mathlib.Core.Path.{_≡_}
-use mathlib.Core.Bool.{true, false}
+use mathlib.Core.Logic.{_⊎_}
+use mathlib.Core.Bool.{Bool, true, false}
 use mathlib.Core.List.{List, [], _∷_, _++_}
 use lib.ListN.{length, take, drop}
 use Rattle.definitions.specs.Roomsheet.{Text, roomsheet}
@@ -26,6 +28,11 @@ pub record LinesAnswered (text : Text) (r : Lines) (out : List ℕ) : Type 0 whe
   pub answered : Answered text (take (r .written) out) (drop (r .used) text)
   pub unended : r .done ≡ true → Without 10 (drop (r .used) text)
   pub onward : r .done ≡ false → 33 ≤ length out → 0 < r .used
+
+pub record Keeps (done : Bool) (rest kept : ℕ) : Type 0 where
+  pub within : kept ≤ rest
+  pub short : done ≡ true → kept ≤ 81
+  pub whole : (kept ≡ rest) ⊎ ((done ≡ true) × (kept ≡ 81))
 
 pub record ChunkAnswered (text : Text) (r : Chunk) (after out : List ℕ) : Type 0 where
   pub kept-le : r .kept ≤ length text

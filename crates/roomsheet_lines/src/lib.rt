@@ -1,19 +1,18 @@
 // The lines of a text, answered as 01, "roomsheet", says, however the text is cut: the ended lines in front of a buffer are answered as far as
 // there is room, what is left is kept for the next read, and a last line may lack its newline. A malformed line is refusal 11; refusals are
-// text here, as roomsheet prints them. The contracts cite the definitions' lineAnswer and roomsheet; proofs/Streams.antt shows that a whole
+// text here, as roomsheet prints them. The contracts cite the definitions' lineAnswer and roomsheet; proofs/Texts.antt shows that a whole
 // run prints roomsheet of the whole input.
 use parameters::Checked;
 use parameters::Parameters;
 use parameters::refusals;
 ghost use mathlib.Core.Path.{_≡_};
-ghost use mathlib.Core.Bool.{cond};
 ghost use mathlib.Core.List.{[], _∷_, _++_};
-ghost use Prim.Native.Nat.{_+_, _≤_, min};
+ghost use Prim.Native.Nat.{_+_, _≤_};
 ghost use lib.ListN.{length, take, drop};
 ghost use Rattle.definitions.specs.Roomsheet.{lineAnswer, roomsheet};
 ghost use Rattle.roomsheet_parse.specs.Parts.{Without};
 ghost use Rattle.roomsheet_print.specs.Appended.{Appended};
-ghost use Rattle.roomsheet_lines.specs.Answered.{LinesAnswered, ChunkAnswered};
+ghost use Rattle.roomsheet_lines.specs.Answered.{LinesAnswered, Keeps, ChunkAnswered};
 
 // How far the ended lines of a text were answered; done where none is left.
 pub struct Lines {
@@ -95,7 +94,7 @@ fn move_front(text: &mut [u8], from: usize, count: usize)
 
 // How many octets are kept of the rest: of a line without its end, no more than show it malformed.
 fn kept_of(rest: usize, done: bool) -> usize
-    ensures { λ r. ⌜ r ≡ cond done (min rest 81) rest ⌝ }
+    ensures { λ r. ⌜ Keeps done rest r ⌝ }
 {
     if done {
         if KEPT_MOST < rest {

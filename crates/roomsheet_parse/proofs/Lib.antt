@@ -1,5 +1,4 @@
 -- Laws of the parts of a text and of the numbers of a line.
 pub mod Parts
-pub mod Digits
 pub mod Numbers
 pub mod Fields

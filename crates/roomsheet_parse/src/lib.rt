@@ -4,8 +4,9 @@
 ghost use mathlib.Core.Path.{_≡_};
 ghost use Prim.Native.Nat.{_+_, _≤_};
 ghost use lib.ListN.{length, drop};
+ghost use Rattle.definitions.specs.Roomsheet.{isNumber};
 ghost use Rattle.roomsheet_parse.specs.Parts.{upTo};
-ghost use Rattle.roomsheet_parse.specs.Numbers.{numberAs, digitsAt, numberAt, NumbersRead};
+ghost use Rattle.roomsheet_parse.specs.Numbers.{digitsFit, Finds, NumbersRead};
 
 // What reading a number finds: the number and the place past it, or that it is malformed.
 pub enum Number {
@@ -43,7 +44,7 @@ pub fn find_newline(text: &[u8], from: usize) -> usize
 // The digits from a place to the next space or the end, and the number that they write.
 fn read_digits(line: &[u8], from: usize) -> Number
     requires { ⌜ from ≤ length (now line) ⌝ }
-    ensures { λ r. ⌜ numberAs r ≡ digitsAt (now (line .entry)) from ⌝ }
+    ensures { λ r. ⌜ Finds digitsFit (now (line .entry)) from r ⌝ }
 {
     let mut value = 0u64;
     let mut i = from;
@@ -76,7 +77,7 @@ fn read_digits(line: &[u8], from: usize) -> Number
 // The number at a place: digits, at least one, and the first of several above zero.
 pub fn parse_number(line: &[u8], from: usize) -> Number
     requires { ⌜ from ≤ length (now line) ⌝ }
-    ensures { λ r. ⌜ numberAs r ≡ numberAt (now (line .entry)) from ⌝ }
+    ensures { λ r. ⌜ Finds isNumber (now (line .entry)) from r ⌝ }
 {
     let read = read_digits(line, from);
     let Number::Value { value: _, next } = read else {

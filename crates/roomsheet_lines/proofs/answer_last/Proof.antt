@@ -3,8 +3,7 @@
 use mathlib.Core.Path.{sym, _∙_}
 use native.Mathlib.Omega.{arith}
 use borrow.Author.Needs.{needs}
-use Rattle.roomsheet_lines.proofs.Texts.{lineText-le}
-use Rattle.roomsheet_lines.proofs.Streams.{roomsheet-none, roomsheet-last}
+use Rattle.roomsheet_lines.proofs.Texts.{lineText-le, roomsheet-none, roomsheet-last}
 use Rattle.roomsheet_lines.proofs.answer_last.Statement.{statement}
 use Rattle.roomsheet_lines.proofs.answer_last.Tie as tie
 

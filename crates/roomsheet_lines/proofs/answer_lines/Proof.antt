@@ -1,10 +1,10 @@
 -- `answer_lines` meets its contract: at each turn the lines up to used are answered, and the next one ends at the newline found.
 -- Assumes nothing.
 use Prim.Native.Nat.{_-_}
-use mathlib.Core.Bool.{true≢false, false≢true}
 use native.Mathlib.Omega.{arith}
 use lib.ListN.{length}
-use Rattle.roomsheet_lines.proofs.Answering.{Answering, answering-start, end-le, answering-done, answering-next, answering-onward}
+use borrow.Author.Needs.{needs}
+use Rattle.roomsheet_lines.proofs.Buffers.{Answering, answering-start, end-le, answering-done, answering-next, stopped-done, stopped-full}
 use Rattle.roomsheet_lines.proofs.answer_lines.Statement.{statement}
 use Rattle.roomsheet_lines.proofs.answer_lines.Tie as tie
 
@@ -17,37 +17,13 @@ abbrev μ-loop : tie.MeasureT-loop
 loop-holds : tie.Need-loop-holds Inv-loop μ-loop
 loop-holds c = answering-start _ _
 
-sub-loop : tie.Need-sub-loop Inv-loop μ-loop
-sub-loop c = c .loop .inv .written-le
-
-find-newline-requires : tie.Need-find-newline-requires Inv-loop μ-loop
-find-newline-requires c κs = c .before .loop .inv .used-le
-
-same-length : tie.Need-same-length Inv-loop μ-loop
-same-length c = c .before .before .before .loop .inv .kept
-
 returns : tie.Need-returns Inv-loop μ-loop
 returns c =
     let inv = c .before .before .before .loop .inv in
-    record {
-      used-le = inv .used-le;
-      written-le = inv .written-le;
-      answered = inv .answered;
-      unended = λ _. answering-done _ _ _ _ _ inv _ (c .before .find-newline .ensures) (c .if1 .taken);
-      onward = λ e room. absurd (true≢false e);
-    }
-
-sub-answer-line : tie.Need-sub-answer-line Inv-loop μ-loop
-sub-answer-line c = omega (arith, c .before .find-newline .ensures)
-
-part-answer-line-start : tie.Need-part-answer-line-start Inv-loop μ-loop
-part-answer-line-start c = omega (arith, c .before .find-newline .ensures)
+    stopped-done _ _ _ _ _ inv (answering-done _ _ _ _ _ inv _ (c .before .find-newline .ensures) (c .if1 .taken))
 
 part-answer-line-end : tie.Need-part-answer-line-end Inv-loop μ-loop
 part-answer-line-end c = end-le _ _ _ _ _ (c .before .before .before .loop .inv) _ (c .before .find-newline .ensures)
-
-answer-line-requires : tie.Need-answer-line-requires Inv-loop μ-loop
-answer-line-requires c κs = omega (arith, c .before .before .before .before .loop-test .taken, c .before .before .before .before .before .loop .inv)
 
 add-used : tie.Need-add-used Inv-loop μ-loop
 add-used c = omega (arith, end-le _ _ _ _ _ (c .before .before .before .before .before .before .before .before .loop .inv) _ (c .before .before .before .before .before .before .find-newline .ensures), c .before .before .before .before .before .before .before .before .before .before .before .good)
@@ -60,22 +36,11 @@ loop-again c =
 loop-less : tie.Need-loop-less Inv-loop μ-loop
 loop-less c = omega (arith, loop-again c .used-le, c .before .before .before .before .before .before .find-newline .ensures)
 
-same-length-2 : tie.Need-same-length-2 Inv-loop μ-loop
-same-length-2 c = c .before .loop .inv .kept
-
 returns-2 : tie.Need-returns-2 Inv-loop μ-loop
-returns-2 c =
-    let inv = c .before .loop .inv in
-    record {
-      used-le = inv .used-le;
-      written-le = inv .written-le;
-      answered = inv .answered;
-      unended = λ e. absurd (false≢true e);
-      onward = λ e room. answering-onward _ _ _ _ _ inv (c .loop-test .left) room;
-    }
+returns-2 c = stopped-full _ _ _ _ _ (c .before .loop .inv) (c .loop-test .left)
 
 pub answer-lines-spec : {M : Type 1} → statement M
 answer-lines-spec =
     tie.close
-    (tie.spec Inv-loop μ-loop loop-holds sub-loop find-newline-requires same-length returns sub-answer-line part-answer-line-start
-    part-answer-line-end answer-line-requires add-used loop-less loop-again same-length-2 returns-2)
+    (tie.spec Inv-loop μ-loop loop-holds (λ c. search needs) (λ c κs. search needs) (λ c. search needs) returns (λ c. search needs) (λ c. search needs)
+    part-answer-line-end (λ c κs. search needs) add-used loop-less loop-again (λ c. search needs) returns-2)

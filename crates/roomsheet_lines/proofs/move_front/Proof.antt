@@ -18,9 +18,6 @@ loop-holds c = moving-start _ _ _ (c .pre)
 loop-again : tie.Need-loop-again Inv-loop μ-loop
 loop-again c = moving-next _ _ _ _ _ (c .before .before .loop .inv) (c .before .loop-test .taken)
 
-same-length : tie.Need-same-length Inv-loop μ-loop
-same-length c = c .before .loop .inv .kept
-
 returns : tie.Need-returns Inv-loop μ-loop
 returns c = moving-end _ _ _ _ _ (c .before .loop .inv) (c .loop-test .left)
 
@@ -28,4 +25,4 @@ pub move-front-spec : {M : Type 1} → statement M
 move-front-spec =
     tie.close
     (tie.spec Inv-loop μ-loop loop-holds (λ c. search needs) (λ c. search needs) (λ c. search needs) (λ c. search needs) (λ c. search needs)
-    loop-again same-length returns)
+    loop-again (λ c. search needs) returns)

@@ -2,11 +2,9 @@
 -- with those of the rest are the line's.
 -- Assumes nothing.
 use Prim.Native.Nat.{_-_}
-use mathlib.Core.Path.{sym, ap, _∙_}
 use native.Mathlib.Omega.{arith}
 use lib.ListN.{length-set}
 use borrow.Author.Needs.{needs}
-use Rattle.roomsheet_parse.specs.Numbers.{numberAs}
 use Rattle.roomsheet_parse.proofs.Fields.{Progress, progress-start, long-read, progress-over, progress-spoiled, progress-end, progress-next}
 use Rattle.roomsheet_parse.proofs.parse_numbers.Statement.{statement}
 use Rattle.roomsheet_parse.proofs.parse_numbers.Tie as tie
@@ -23,16 +21,10 @@ returns c = long-read _ _ _ (c .if1 .taken)
 loop-holds : tie.Need-loop-holds Inv-loop μ-loop
 loop-holds c = progress-start _ _ _ (c .if1 .left) (c .before .before .before .pre)
 
-parse-number-requires : tie.Need-parse-number-requires Inv-loop μ-loop
-parse-number-requires c κs = c .before .loop .inv .within
-
-same-length : tie.Need-same-length Inv-loop μ-loop
-same-length c = c .before .before .before .before .loop .inv .kept
-
 returns-2 : tie.Need-returns-2 Inv-loop μ-loop
 returns-2 c =
     progress-spoiled _ _ _ _ _ _ (c .before .before .before .before .loop .inv) (c .before .before .before .loop-test .taken)
-    (ap numberAs (sym (c .enum-told .given .1)) ∙ c .before .before .parse-number .ensures)
+    (rw (c .enum-told .given .1) at (c .before .before .parse-number .ensures))
 
 same-length-2 : tie.Need-same-length-2 Inv-loop μ-loop
 same-length-2 c = simp length-set (c .before .before .before .before .before .before .loop .inv .kept)
@@ -40,18 +32,15 @@ same-length-2 c = simp length-set (c .before .before .before .before .before .be
 returns-3 : tie.Need-returns-3 Inv-loop μ-loop
 returns-3 c =
     progress-end _ _ _ _ _ _ (c .before .before .before .before .before .before .loop .inv) (c .before .before .before .before .before .loop-test .taken) _ _
-    (ap numberAs (sym (c .before .before .value .given .1)) ∙ c .before .before .before .before .parse-number .ensures) (c .if2 .taken)
+    (rw (c .before .before .value .given .1) at (c .before .before .before .before .parse-number .ensures)) (c .if2 .taken)
 
 loop-again : tie.Need-loop-again Inv-loop μ-loop
 loop-again c =
     progress-next _ _ _ _ _ _ (c .before .before .before .before .before .before .loop .inv) (c .before .before .before .before .before .loop-test .taken) _ _
-    (ap numberAs (sym (c .before .before .value .given .1)) ∙ c .before .before .before .before .parse-number .ensures) (c .if2 .left)
+    (rw (c .before .before .value .given .1) at (c .before .before .before .before .parse-number .ensures)) (c .if2 .left)
 
 add-at : tie.Need-add-at Inv-loop μ-loop
 add-at c = omega (arith, loop-again c .within)
-
-same-length-3 : tie.Need-same-length-3 Inv-loop μ-loop
-same-length-3 c = c .before .loop .inv .kept
 
 returns-4 : tie.Need-returns-4 Inv-loop μ-loop
 returns-4 c = progress-over _ _ _ _ _ _ (c .before .loop .inv) (c .loop-test .left)
@@ -59,6 +48,6 @@ returns-4 c = progress-over _ _ _ _ _ _ (c .before .loop .inv) (c .loop-test .le
 pub parse-numbers-spec : {M : Type 1} → statement M
 parse-numbers-spec =
     tie.close
-    (tie.spec Inv-loop μ-loop returns loop-holds parse-number-requires (λ c. search needs) (λ c. search needs) same-length returns-2
-    (λ c. search needs) (λ c. search needs) (λ c. search needs) same-length-2 returns-3 add-at (λ c. search needs) loop-again same-length-3
+    (tie.spec Inv-loop μ-loop returns loop-holds (λ c κs. search needs) (λ c. search needs) (λ c. search needs) (λ c. search needs) returns-2
+    (λ c. search needs) (λ c. search needs) (λ c. search needs) same-length-2 returns-3 add-at (λ c. search needs) loop-again (λ c. search needs)
     returns-4)

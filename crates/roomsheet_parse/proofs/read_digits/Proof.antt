@@ -5,7 +5,7 @@ use lib.ListN.{length}
 use borrow.Author.Tests.{le-leb, lt-leb}
 use borrow.Author.Needs.{needs}
 use Rattle.roomsheet_parse.proofs.Parts.{upTo-drop-end, upTo-drop-hit, upTo-drop-miss}
-use Rattle.roomsheet_parse.proofs.Digits.{Reading, reading-start, reading-end, reading-stop, reading-next}
+use Rattle.roomsheet_parse.proofs.Numbers.{Reading, reading-start, reading-end, reading-stop, reading-next}
 use Rattle.roomsheet_parse.proofs.read_digits.Statement.{statement}
 use Rattle.roomsheet_parse.proofs.read_digits.Tie as tie
 

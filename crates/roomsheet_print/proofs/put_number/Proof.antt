@@ -21,9 +21,6 @@ loop-holds c = writing-start _ _ _ _ (omega arith) (omega (arith, decimalLength-
 loop-again : tie.Need-loop-again Inv-loop μ-loop
 loop-again c = writing-next _ _ _ _ _ _ _ (c .before .loop .inv) _ (omega arith) (omega arith)
 
-same-length : tie.Need-same-length Inv-loop μ-loop
-same-length c = c .before .loop .inv .kept
-
 returns : tie.Need-returns Inv-loop μ-loop
 returns c =
     writing-end _ _ _ _ _ _ _ (c .before .loop .inv) (c .loop-test .left)
@@ -33,4 +30,4 @@ pub put-number-spec : {M : Type 1} → statement M
 put-number-spec =
     tie.close
     (tie.spec Inv-loop μ-loop (λ c κs. search needs) add-end loop-holds (λ c. search needs) (λ c. search needs) (λ c. search needs) (λ c. search needs)
-    (λ c. search needs) loop-again same-length returns)
+    (λ c. search needs) loop-again (λ c. search needs) returns)

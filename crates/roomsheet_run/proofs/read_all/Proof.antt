@@ -4,6 +4,7 @@ use Prim.Native.Nat.{_≤_}
 use mathlib.Core.Path.{_≡_, refl, _∙_}
 use native.Mathlib.Omega.{arith}
 use lib.ListN.{length}
+use borrow.Author.Needs.{needs}
 use Rattle.roomsheet_run.specs.Kept.{Kept}
 use Rattle.roomsheet_run.proofs.Reading.{kept-none, kept-read}
 use Rattle.roomsheet_run.proofs.read_all.Statement.{statement}
@@ -19,29 +20,8 @@ abbrev μ-loop : tie.MeasureT-loop
 loop-holds : tie.Need-loop-holds Inv-loop μ-loop
 loop-holds c = (kept-none _, c .before .before .pre .1 .1, refl, refl)
 
-read-some-requires : tie.Need-read-some-requires Inv-loop μ-loop
-read-some-requires c κs = omega (arith, c .before .before .loop .inv, c .before .before .before .before .before .pre)
-
-same-length : tie.Need-same-length Inv-loop μ-loop
-same-length c = c .before .before .before .read-some .kept .0 ∙ c .before .before .before .before .before .before .loop .inv .2
-
-same-length-2 : tie.Need-same-length-2 Inv-loop μ-loop
-same-length-2 c = c .before .before .before .before .before .before .loop .inv .3
-
 returns : tie.Need-returns Inv-loop μ-loop
 returns c = kept-read _ _ _ _ (c .before .before .before .before .before .before .loop .inv .0) (c .before .before .before .read-some .ensures)
-
-add-answer-all : tie.Need-add-answer-all Inv-loop μ-loop
-add-answer-all c = omega (arith, c .before .before .before .before .read-some .ensures .within, c .before .before .before .before .read-some .kept .0, c .before .before .before .before .before .before .before .loop .inv .2, c .before .before .before .before .before .before .before .before .before .before .good .0)
-
-answer-all-requires : tie.Need-answer-all-requires Inv-loop μ-loop
-answer-all-requires c κs = (c .before .before .before .before .before .read-some .ensures .within, c .before .before .before .before .before .before .before .before .loop .inv .1)
-
-sub-turns : tie.Need-sub-turns Inv-loop μ-loop
-sub-turns c = c .before .before .before .before .before .before .before .before .before .before .before .before .loop-test .taken
-
-loop-less : tie.Need-loop-less Inv-loop μ-loop
-loop-less c = omega (arith, c .before .before .before .before .before .before .before .before .before .before .before .before .loop-test .taken)
 
 loop-again : tie.Need-loop-again Inv-loop μ-loop
 loop-again c =
@@ -49,17 +29,11 @@ loop-again c =
     let called = c .before .before .before .before .answer-all in
     (called .ensures, omega (arith, called .kept .1 .1 .0, inv .1), called .kept .0 ∙ c .before .before .before .before .before .before .before .before .before .before .read-some .kept .0 ∙ inv .2, called .kept .1 .1 .0 ∙ inv .3)
 
-same-length-3 : tie.Need-same-length-3 Inv-loop μ-loop
-same-length-3 c = c .before .loop .inv .2
-
-same-length-4 : tie.Need-same-length-4 Inv-loop μ-loop
-same-length-4 c = c .before .loop .inv .3
-
 returns-2 : tie.Need-returns-2 Inv-loop μ-loop
 returns-2 c = c .before .loop .inv .0
 
 pub read-all-spec : {M : Type 1} → statement M
 read-all-spec =
     tie.close
-    (tie.spec Inv-loop μ-loop loop-holds read-some-requires same-length same-length-2 returns add-answer-all answer-all-requires sub-turns
-    loop-less loop-again same-length-3 same-length-4 returns-2)
+    (tie.spec Inv-loop μ-loop loop-holds (λ c κs. search needs) (λ c. search needs) (λ c. search needs) returns (λ c. search needs) (λ c κs. search needs) (λ c. search needs)
+    (λ c. search needs) loop-again (λ c. search needs) (λ c. search needs) returns-2)
