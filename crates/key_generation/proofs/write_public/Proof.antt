@@ -5,7 +5,6 @@ use native.Mathlib.Nat.{zero-add}
 use native.Mathlib.Omega.{arith}
 use mathlib.Core.Path.{_≡_, refl, sym, ap, _∙_}
 use mathlib.Core.List.{List, _++_}
-use mathlib.Core.Logic.{⊎-elim}
 use lib.ListN.{length, replicate}
 use lib.Seq.{length-slice}
 use borrow.Rule.Slice.PartMut.{midOf, putMid}
