@@ -1,32 +1,31 @@
 -- Why element after element gives the ciphertext's octets, and that they depend on the key's and the mask's coefficients alone.
 --
 --   product-cong, encryptedWith-cong    the same coefficients give the same product and the same ciphertext
---   encryptedSum-at                     the sum in part 7, modulo q, is the element of the ciphertext
---   elements-step, elements-end         one element more;  all of them
+--   Written                             the octets of the first m elements stand at the front
+--   elements-none, elements-step, elements-end   none;  one element more;  all of them
 -- Assumes nothing.
 use Prim.Native.Nat.{ℕ, suc, _+_, _-_, _*_, _/_, _%_, _≤_, _<_}
 use native.Mathlib.Nat.{zero-mul, le-refl, mul-le-mul-right}
 use native.Mathlib.Omega.{arith}
 use mathlib.Core.Path.{_≡_, refl, sym, _∙_, ap, ap₂}
 use mathlib.Core.List.{List, _++_, append-assoc}
-use lib.Arith.{digits-lt, digits-div, digits-mod}
+use lib.Arith.{digits-div, digits-mod}
 use lib.ListN.{length, getD, take, drop, length-append}
-use lib.Seq.{take-at, take-all, getD-take, getD-drop, length-take-le, drop-drop}
+use lib.Seq.{take-at, take-all, getD-take, getD-drop, length-take-le}
+use borrow.Rule.Slice.PartMut.{putMid}
 use Rattle.definitions.specs.Sequences.{sum, tabulate}
-use Rattle.definitions.specs.Parameters.{Parameters, degree, qlen, monomialCount, elementsLength, ciphertextLength, smallLength}
+use Rattle.definitions.specs.Parameters.{Parameters, degree, qlen, monomialCount, elementsLength, ciphertextLength}
 use Rattle.definitions.specs.Ring.{Element, add, modulo, scale}
 use Rattle.definitions.specs.Monomials.{Polynomial, coefficientsOf, constantTerm, sumOf, productOf, monomialAt, sameMonomial}
 use Rattle.definitions.specs.Octets.{encoded}
-use Rattle.definitions.specs.Draws.{noiseDrawn}
-use Rattle.definitions.specs.Calls.{smallOf, octetsFrom, noiseOf, encryptedWith}
+use Rattle.definitions.specs.Calls.{polynomialFrom, smallOf, octetsFrom, noiseOf, encryptedWith}
 use Rattle.definitions.proofs.Sums.{sum-cong, length-tabulate, tabulate-cong, tabulate-getD}
 use Rattle.definitions.proofs.Filling.{tabulate-add, length-borrowed}
 use Rattle.definitions.proofs.Ring.{conv-cong}
 use Rattle.definitions.proofs.Octets.{length-encoded, encoded-append}
 use Rattle.ring.specs.Work.{part, written}
-use Rattle.decoding.specs.Elements.{flat}
-use Rattle.mask_products.specs.Products.{maskIn, Summed}
-use Rattle.mask_products.proofs.Sums.{count-six, summed-then}
+use Rattle.ring.proofs.Lent.{putMid-written}
+use Rattle.mask_products.specs.Products.{maskIn, sumIn, SumIs}
 use Rattle.ciphertext_elements.specs.Elements.{encryptedSum}
 
 abbrev pub SameUpTo : ℕ → ℕ → Polynomial → Polynomial → Type 0
@@ -39,22 +38,11 @@ product-cong n d e h s m k =
     sum-cong (monomialCount d) (λ i l. sum-cong (monomialCount e) (λ j b.
     ap (λ (x : ℕ). x * sameMonomial (monomialAt d i) (monomialAt e j) (monomialAt (d + e) m)) (conv-cong n (h i l) (s j b) k)))
 
-module _ (p : Parameters) (m : Element) (e : Polynomial) where
-  pub encryptedWith-cong : {key key' r r' : Polynomial} → SameUpTo (monomialCount (p .dx)) (p .n) key key' → SameUpTo (monomialCount (p .dr)) (p .n) r r'
-      → (i k : ℕ) → encryptedWith p key m r e i k ≡ encryptedWith p key' m r' e i k
-  unfolding encryptedWith modulo sumOf add scale
-  encryptedWith-cong h s i k =
-      ap (λ (x : ℕ). (constantTerm (degree p) m i k + x + p .l * e i k) % p .q) (product-cong (p .n) (p .dx) (p .dr) h s i k)
-
-  pub encryptedSum-at : (key r : Polynomial) (i k : ℕ) → encryptedSum p key m r e i k % p .q ≡ encryptedWith p key m r e i k
-  unfolding encryptedWith modulo sumOf add scale
-  encryptedSum-at key r i k = ap (λ (x : ℕ). x % p .q) (omega arith)
-
--- the noise from a place on
-pub noiseOf-drop : (p : Parameters) (random : List ℕ) (start i k : ℕ)
-    → getD (noiseDrawn p (drop (start + i * smallLength p) random)) k 0 ≡ noiseOf p (drop start random) i k
-unfolding noiseOf
-noiseOf-drop p random start i k = ap (λ (l : List ℕ). getD (noiseDrawn p l) k 0) (sym (drop-drop (i * smallLength p) start random))
+pub encryptedWith-cong : (p : Parameters) (key : Polynomial) (m : Element) (e : Polynomial) {r r' : Polynomial} → SameUpTo (monomialCount (p .dr)) (p .n) r r'
+    → (i k : ℕ) → encryptedWith p key m r e i k ≡ encryptedWith p key m r' e i k
+unfolding encryptedWith modulo sumOf add scale
+encryptedWith-cong p key m e s i k =
+    ap (λ (x : ℕ). (constantTerm (degree p) m i k + x + p .l * e i k) % p .q) (product-cong (p .n) (p .dx) (p .dr) (λ h l j b. refl) s i k)
 
 -- ---- the octets, element after element
 coefficientsOf-next : (n m : ℕ) (f : Polynomial) → coefficientsOf n (m + 1) f ≡ coefficientsOf n m f ++ tabulate n (f m)
@@ -73,7 +61,7 @@ take-written at new old h =
     (length-append (take at old) new ∙ omega (arith, length-take-le at old (omega arith))))
 
 module _ (n width : ℕ) (f : Polynomial) where
-  abbrev pub Written : ℕ → List ℕ → Type 0
+  abbrev Written : ℕ → List ℕ → Type 0
   Written m octets = take (m * n * width) octets ≡ encoded width (coefficientsOf n m f)
 
   pub elements-none : (octets : List ℕ) → Written 0 octets
@@ -91,44 +79,35 @@ module _ (n width : ℕ) (f : Polynomial) where
       ∙ sym (encoded-append width (coefficientsOf n m f) (tabulate n (f m)))
       ∙ ap (encoded width) (sym (coefficientsOf-next n m f))
 
-module _ (p : Parameters) (f : Polynomial) where
-  pub elements-end : (m : ℕ) (octets : List ℕ) → m ≡ monomialCount (degree p) → length octets ≡ ciphertextLength p
-      → Written (p .n) (qlen (p .q)) f m octets → octets ≡ octetsFrom p (degree p) f
-  unfolding ciphertextLength elementsLength octetsFrom
-  elements-end m octets e exact w =
-      let whole : length octets ≤ m * p .n * qlen (p .q) = rw (e, exact) (le-refl _) in
-      sym (take-all (m * p .n * qlen (p .q)) octets whole) ∙ w ∙ ap (λ (c : ℕ). encoded (qlen (p .q)) (coefficientsOf (p .n) c f)) e
+-- ---- the elements of the ciphertext, by the mask in the work words
+module _ (p : Parameters) (public message noise begun : List ℕ) where
+  abbrev pub ofMask : Polynomial
+  ofMask = encryptedWith p (polynomialFrom p public) (smallOf p message) (maskIn p begun) (noiseOf p noise)
 
--- ---- one element, summed and written
-module _ (p : Parameters) (public message random : List ℕ) (start : ℕ) where
-  abbrev pub ofMask : List ℕ → Polynomial
-  ofMask work = encryptedWith p (flat (p .n) (qlen (p .q)) public) (smallOf p message) (maskIn (p .n) work) (noiseOf p (drop start random))
+  abbrev pub ElementsWritten : ℕ → List ℕ → Type 0
+  ElementsWritten = Written (p .n) (qlen (p .q)) ofMask
 
-  pub summed-element : {old mid last new : List ℕ} {r : ℕ} (m : ℕ) → r ≡ smallLength p
-      → Summed (p .n) (p .q) (productOf (p .n) (p .dx) (p .dr) (flat (p .n) (qlen (p .q)) public) (maskIn (p .n) old) m) old mid
-      → Summed (p .n) (p .q) (λ k. part mid (7 * p .n) k + p .l * getD (noiseDrawn p (drop (start + m * r) random)) k 0) mid last
-      → Summed (p .n) (p .q) (λ k. part last (7 * p .n) k + constantTerm (degree p) (smallOf p message) m k) last new
-      → Summed (p .n) (p .q) (encryptedSum p (flat (p .n) (qlen (p .q)) public) (smallOf p message) (maskIn (p .n) old) (noiseOf p (drop start random)) m) old new
-  summed-element {old} {r = r} m e product noise term =
-      let both : Summed (p .n) (p .q) (λ k. productOf (p .n) (p .dx) (p .dr) (flat (p .n) (qlen (p .q)) public) (maskIn (p .n) old) m k + p .l * getD (noiseDrawn p (drop (start + m * r) random)) k 0) old _ =
-      summed-then (λ k. p .l * getD (noiseDrawn p (drop (start + m * r) random)) k 0) product noise (λ k l. refl) in
-      summed-then (λ k. constantTerm (degree p) (smallOf p message) m k) both term (λ k l.
-      rw (e, noiseOf-drop p random start m k))
-
-  pub element-step : (begun old new : List ℕ) {work summed : List ℕ} {width : ℕ} (m : ℕ) → p .dr ≤ 2 → width ≡ qlen (p .q)
-      → ((i : ℕ) → i < 6 * p .n → getD work i 0 ≡ getD begun i 0)
-      → Summed (p .n) (p .q) (encryptedSum p (flat (p .n) (qlen (p .q)) public) (smallOf p message) (maskIn (p .n) work) (noiseOf p (drop start random)) m) work summed
-      → m * p .n * width + p .n * width ≤ length old
-      → new ≡ written (m * p .n * width) (encoded width (tabulate (p .n) (part summed (7 * p .n)))) old
-      → Written (p .n) (qlen (p .q)) (ofMask begun) m old → Written (p .n) (qlen (p .q)) (ofMask begun) (m + 1) new
-  element-step begun old new {work} {summed} m d w kept s room e before =
-      elements-step (p .n) (qlen (p .q)) (ofMask begun) m (part summed (7 * p .n)) old new
-      (λ k l.
+  -- the sum modulo q is the ciphertext's element
+  sum-at : {work summed : List ℕ} (m : ℕ) → take (6 * p .n) work ≡ take (6 * p .n) begun → SumIs p (encryptedSum p public message noise m) work summed
+      → (k : ℕ) → k < p .n → sumIn p summed k ≡ ofMask m k
+  unfolding encryptedWith modulo sumOf add scale
+  sum-at m same s k l =
       s .sum k l
-      ∙ encryptedSum-at p (smallOf p message) (noiseOf p (drop start random)) (flat (p .n) (qlen (p .q)) public) (maskIn (p .n) work) m k
-      ∙ encryptedWith-cong p (smallOf p message) (noiseOf p (drop start random)) (λ i b j c. refl)
-      (λ j b k c. let few : j < 6 = omega (arith, count-six (p .dr) d) in kept (j * p .n + k) (digits-lt few c)) m k)
-      (rw w at room) (rw w at e) before
+      ∙ ap (λ (w : List ℕ). encryptedSum p public message noise m (λ j h. getD w (j * p .n + h) 0) k % p .q) same
+      ∙ ap (λ (x : ℕ). x % p .q) (omega arith)
+
+  pub element-step : {work summed : List ℕ} (m : ℕ) (old new : List ℕ) → take (6 * p .n) work ≡ take (6 * p .n) begun
+      → SumIs p (encryptedSum p public message noise m) work summed → m * p .n * qlen (p .q) + p .n * qlen (p .q) ≤ length old
+      → new ≡ written (m * p .n * qlen (p .q)) (encoded (qlen (p .q)) (tabulate (p .n) (sumIn p summed))) old
+      → ElementsWritten m old → ElementsWritten (m + 1) new
+  element-step {summed = summed} m old new same s = elements-step (p .n) (qlen (p .q)) ofMask m (sumIn p summed) old new (sum-at m same s)
+
+  pub elements-end : {m : ℕ} (octets : List ℕ) → m ≡ monomialCount (degree p) → length octets ≡ ciphertextLength p
+      → ElementsWritten m octets → octets ≡ octetsFrom p (degree p) ofMask
+  unfolding ciphertextLength elementsLength octetsFrom
+  elements-end {m} octets e exact w =
+      let whole : length octets ≤ m * p .n * qlen (p .q) = rw (e, exact) (le-refl _) in
+      sym (take-all (m * p .n * qlen (p .q)) octets whole) ∙ w ∙ ap (λ (c : ℕ). encoded (qlen (p .q)) (coefficientsOf (p .n) c ofMask)) e
 
 pub ciphertext-room : (p : Parameters) {m width : ℕ} (octets : List ℕ) → m < monomialCount (degree p) → width ≡ qlen (p .q) → length octets ≡ ciphertextLength p
     → m * p .n * width + p .n * width ≤ length octets
@@ -144,3 +123,11 @@ borrowed-element at n l h =
     sym (tabulate-getD (take (at + n - at) (drop at l)) 0)
     ∙ ap (λ (c : ℕ). tabulate c (λ k. getD (take (at + n - at) (drop at l)) k 0)) (length-borrowed at n l h)
     ∙ tabulate-cong n (λ k b. getD-take (at + n - at) (drop at l) k 0 (omega arith) ∙ getD-drop at l k 0)
+
+-- an element's octets, lent and written
+pub element-written : (n m : ℕ) (f : Element) (old : List ℕ) {width len : ℕ} {new : List ℕ} → width ≡ len → new ≡ encoded width (tabulate n f)
+    → putMid (m * n * width) (m * n * width + n * width - m * n * width) old new ≡ written (m * n * len) (encoded len (tabulate n f)) old
+element-written n m f old {width} {new = new} e h =
+    putMid-written (m * n * width) (n * width) old new
+    (ap length h ∙ length-encoded width (tabulate n f) ∙ ap (λ (c : ℕ). c * width) (length-tabulate n f))
+    ∙ ap₂ (λ (x : ℕ) (l : List ℕ). written (m * n * x) l old) e (h ∙ ap (λ (x : ℕ). encoded x (tabulate n f)) e)

@@ -1,4 +1,3 @@
 -- Laws that the proofs of this crate and of the crate above it cite.
-pub mod Elements
 pub mod Ciphertext
-pub mod Sharing
+pub mod Elements

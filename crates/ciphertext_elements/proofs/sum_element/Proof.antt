@@ -1,63 +1,51 @@
--- `sum_element` adds the noise and the message to the product, one after the other, in part 7.
+-- `sum_element` adds the noise and the message to the product, one after the other.
 -- Assumes nothing.
-use Prim.Native.Nat.{ℕ, _*_}
-use native.Mathlib.Omega.{arith}
-use mathlib.Core.Path.{_≡_, _∙_, ap}
+use mathlib.Core.Path.{_∙_}
 use borrow.Author.Needs.{needs}
-use Rattle.definitions.specs.Parameters.{smallLength}
 use Rattle.definitions.proofs.Parameters.{modulus-positive}
-use Rattle.parameters.specs.Answers.{setFrom}
-use Rattle.mask_products.proofs.Sums.{summed-inRing}
-use Rattle.ciphertext_elements.proofs.Elements.{ready-set, ready-inputs, ready-noise}
-use Rattle.ciphertext_elements.proofs.Ciphertext.{summed-element}
+use Rattle.mask_products.proofs.Sums.{inputs-set, sum-inRing}
+use Rattle.ciphertext_elements.proofs.Elements.{noise-room, sum-element}
 use Rattle.ciphertext_elements.proofs.sum_element.Statement.{statement}
 use Rattle.ciphertext_elements.proofs.sum_element.Tie as tie
 
-mul-at : tie.Need-mul-at
-mul-at c =
-    let s = c .before .before .before .before .before .before .before in
-    let same : s .args .m * c .small-length .result ≡ s .args .m * smallLength (setFrom (s .args .p)) = ap (λ (x : ℕ). s .args .m * x) (c .small-length .ensures) in
-    omega (arith, ready-noise (s .pre .0) (s .pre .1))
+abbrev start : tie.After-product-element → tie.Start
+start c = c .before .before .before .before .before .before .before
 
-add-at : tie.Need-add-at
-add-at c =
-    let s = c .before .before .before .before .before .before .before in
-    let same : s .args .m * c .small-length .result ≡ s .args .m * smallLength (setFrom (s .args .p)) = ap (λ (x : ℕ). s .args .m * x) (c .small-length .ensures) in
-    omega (arith, ready-noise (s .pre .0) (s .pre .1))
+abbrev taken : tie.After-add-noise → tie.After-product-element
+taken c = c .before .before .before .before
+
+abbrev noisy : tie.After-add-message-arg → tie.After-add-noise
+noisy c = c .before .before .before
 
 product-element-requires : tie.Need-product-element-requires
-product-element-requires c κs = (ready-inputs (c .before .before .before .before .before .before .before .before .pre .0) (c .before .before .before .before .before .before .before .before .pre .1), c .before .before .before .before .before .before .before .before .pre .2)
+product-element-requires c κs = let s = c .before .before .before .before .before .before in ((s .pre .0 .0 .inputs, s .pre .0 .1), s .pre .1)
 
 add-noise-requires : tie.Need-add-noise-requires
 add-noise-requires c κs =
-    let s = c .before .before .before .before .before .before .before .before .before .before .before .before in
-    let g = s .pre .0 in
-    let product = c .before .before .before .product-element .ensures in
-    let r = c .before .before .before .before .before .small-length .result in
-    let same : s .args .m * r ≡ s .args .m * smallLength (setFrom (s .args .p)) = ap (λ (x : ℕ). s .args .m * x) (c .before .before .before .before .before .small-length .ensures) in
-    (g .set, product .as-long ∙ g .work-exact, omega (arith, ready-noise g (s .pre .1)), summed-inRing (modulus-positive _ (ready-set g)) product)
+    let call = c .before .before .before in
+    let s = start call in
+    let g = s .pre .0 .0 .inputs in
+    let product = call .product-element .ensures in
+    ((g .set, product .as-long ∙ g .work-exact, sum-inRing (modulus-positive _ (inputs-set g)) product), noise-room (s .pre .0 .0) (s .pre .0 .1))
 
 add-message-requires : tie.Need-add-message-requires
 add-message-requires c κs =
-    let s = c .before .before .before .before .before .before .before .before .before .before .before .before .before .before .before .before in
-    let g = s .pre .0 in
-    let product = c .before .before .before .before .before .before .before .product-element .ensures in
-    let noise = c .before .before .before .add-noise .ensures in
-    (g .set, noise .as-long ∙ product .as-long ∙ g .work-exact, s .pre .1, summed-inRing (modulus-positive _ (ready-set g)) noise)
+    let call = noisy c in
+    let s = start (taken call) in
+    let g = s .pre .0 .0 .inputs in
+    let noise = call .add-noise .ensures .is in
+    ((g .set, noise .as-long ∙ taken call .product-element .ensures .as-long ∙ g .work-exact, sum-inRing (modulus-positive _ (inputs-set g)) noise), s .pre .0 .1)
 
 returns : tie.Need-returns
 returns c =
-    let a = c .before .before .before .before .before .before .before .before .before .before .before .before .before .before .before .before .before .before .before .args in
-    summed-element (setFrom (a .p)) (a .public .now) (a .message .now) (a .random .now) (a .start) (a .m)
-    (c .before .before .before .before .before .before .before .before .before .before .before .before .small-length .ensures) (c .before .before .before .before .before .before .before .before .before .before .product-element .ensures) (c .before .before .before .before .before .before .add-noise .ensures) (c .before .before .add-message .ensures)
+    let call = noisy (c .before .before .before) in
+    let a = start (taken call) .args in
+    sum-element (a .public .now) (a .message .now) (a .noise .now) (a .m) (taken call .product-element .ensures) (call .add-noise .ensures) (c .before .before .add-message .ensures)
 
 pub sum-element-spec : {M : Type 1} → statement M
 sum-element-spec =
     tie.close
     (tie.spec
-    (λ c κs. search needs)
-    mul-at
-    add-at
     product-element-requires
     add-noise-requires
     add-message-requires

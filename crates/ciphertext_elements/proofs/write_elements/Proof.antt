@@ -1,36 +1,48 @@
--- `write_elements` shares the products only where its tests have shown one degree and room in the lists.
+-- `write_elements` shares the products only where its tests have shown one degree and room in the list.
 -- Assumes nothing.
 use Prim.Native.Nat.{_≤_}
 use native.Mathlib.Nat.{mul-le-mul}
 use native.Mathlib.Omega.{arith}
 use borrow.Author.Needs.{needs}
 use Rattle.definitions.proofs.Parameters.{key-degree-most}
-use Rattle.mask_products.proofs.Sums.{count-six}
-use Rattle.ciphertext_elements.proofs.Elements.{ready-set}
+use Rattle.mask_products.proofs.Sums.{count-six, inputs-set}
 use Rattle.ciphertext_elements.proofs.write_elements.Statement.{statement}
 use Rattle.ciphertext_elements.proofs.write_elements.Tie as tie
+
+abbrev first : tie.Else1 → tie.Start
+first c = c .before .before .before .before .before .before .before
+
+abbrev tested : tie.After-struct-known2 → tie.Else1
+tested c = c .before .before
 
 returns : tie.Need-returns
 returns c = search needs
 
 monomial-count-requires : tie.Need-monomial-count-requires
-monomial-count-requires c κs = omega (arith, key-degree-most _ (ready-set (c .before .before .before .before .before .before .before .pre .0)))
+monomial-count-requires c κs = omega (arith, key-degree-most _ (inputs-set (first c .pre .0 .inputs)))
 
 mul-words : tie.Need-mul-words
 mul-words c =
-    let s = c .before .before .before .before .before .before .before .before .before in
-    let set = ready-set (s .pre .0) in
+    let s = first (tested c) in
+    let set = inputs-set (s .pre .0 .inputs) in
     let few : c .before .monomial-count .result ≤ 6 = rw (c .before .monomial-count .ensures) (count-six (s .args .p .dx) (key-degree-most _ set)) in
     omega (arith, mul-le-mul few (set .ring-most))
 
 write-short-requires : tie.Need-write-short-requires
-write-short-requires c κs = (c .before .before .before .before .before .before .before .before .before .before .before .before .pre .0, c .before .before .before .before .before .before .before .before .before .before .before .before .pre .1, c .before .before .before .before .before .if1 .left, rw (← c .before .before .before .before .monomial-count .ensures) (c .before .before .if2 .taken))
+write-short-requires c κs =
+    let t = c .before .before in
+    let s = first (tested (t .before)) in
+    ((s .pre .0, s .pre .1), (tested (t .before) .if1 .left, rw (← t .before .before .monomial-count .ensures) (t .if2 .taken)))
 
 returns-2 : tie.Need-returns-2
 returns-2 c = search needs
 
 write-long-requires : tie.Need-write-long-requires
-write-long-requires c κs = (c .before .before .before .before .before .before .before .before .before .before .before .before .before .pre .0, c .before .before .before .before .before .before .before .before .before .before .before .before .before .pre .1, c .before .before .before .before .before .before .if1 .left, rw (← c .before .before .before .before .before .monomial-count .ensures) (c .before .before .if3 .taken))
+write-long-requires c κs =
+    let t = c .before .before in
+    let words = t .before .before in
+    let s = first (tested words) in
+    ((s .pre .0, s .pre .1), (tested words .if1 .left, rw (← words .before .monomial-count .ensures) (t .if3 .taken)))
 
 returns-3 : tie.Need-returns-3
 returns-3 c = search needs

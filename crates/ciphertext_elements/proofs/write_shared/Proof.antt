@@ -1,46 +1,48 @@
--- `write_shared` is right because preparing the lists leaves the mask's parts as they were.
+-- `write_shared` is right because preparing the list leaves the mask as it was.
 -- Assumes nothing.
-use mathlib.Core.Path.{_∙_}
+use Prim.Native.Nat.{ℕ, _+_, _*_}
+use mathlib.Core.Path.{_∙_, ap}
+use mathlib.Core.List.{List}
 use borrow.Author.Needs.{needs}
-use Rattle.definitions.proofs.Parameters.{key-degree-most, mask-degree-most}
+use lib.ListN.{getD}
+use Rattle.definitions.specs.Parameters.{degree}
+use Rattle.definitions.specs.Calls.{polynomialFrom, smallOf, octetsFrom, noiseOf, encryptedWith}
 use Rattle.parameters.specs.Answers.{setFrom}
-use Rattle.ciphertext_elements.proofs.Elements.{ready-set, ready-kept}
-use Rattle.ciphertext_elements.proofs.Sharing.{ready-prepare, shared-prepared, encrypted-kept}
+use Rattle.mask_products.proofs.Sums.{inputs-kept}
+use Rattle.ciphertext_elements.proofs.Elements.{prepared-kept}
 use Rattle.ciphertext_elements.proofs.write_shared.Statement.{statement}
 use Rattle.ciphertext_elements.proofs.write_shared.Tie as tie
 
+abbrev start : tie.After-prepare → tie.Start
+start c = c .before .before .before .before .before .before .before .before .before
+
+abbrev prepared : tie.After-write-each-arg3 → tie.After-prepare
+prepared c = c .before .before .before .before .before .before .before
+
 prepare-requires : tie.Need-prepare-requires
-prepare-requires c κs =
-    let s = c .before .before .before .before .before .before .before .before .before .before .before .before .before in
-    (ready-prepare (s .pre .2) (c .before .before .before .before .octets-of-coefficient .ensures) (s .pre .0), s .pre .3, s .pre .4)
+prepare-requires c κs = let s = c .before .before .before .before .before .before .before .before in (s .pre .0 .0 .inputs, s .pre .1 .0, s .pre .1 .1)
 
 write-each-requires : tie.Need-write-each-requires
 write-each-requires c κs =
-    let s = c .before .before .before .before .before .before .before .before .before .before .before .before .before .before .before .before .before .before .before .before .before .before .before .before in
-    let g = s .pre .0 in
-    let p = c .before .before .before .before .before .before .before .before .before .before .prepare .ensures in (
-      ready-kept g (p .1 .as-long) (p .1 .same),
-      s .pre .1,
-      (λ e. shared-prepared (s .pre .2) (c .before .before .before .before .before .before .before .before .before .before .before .before .before .before .before .octets-of-coefficient .ensures) (s .args .work .now) _ (key-degree-most _ (ready-set g)) p),
-    )
+    let call = prepared c in
+    let s = start call in
+    let p = call .prepare .ensures in
+    ((record { inputs = inputs-kept (s .pre .0 .0 .inputs) (p .1) (call .prepare .kept .1 .1 .0); room = s .pre .0 .0 .room }, s .pre .0 .1), (λ h. prepared-kept (p .0) (p .1)))
 
 returns : tie.Need-returns
 returns c =
-    let s = c .before .before .before .before .before .before .before .before .before .before .before .before .before .before .before .before .before .before .before .before .before .before .before .before .before .before .before .before .before in
-    let a = s .args in
+    let call = prepared (c .before .before .before .before .before) in
+    let a = start call .args in
+    let p = setFrom (a .p) in
     c .before .before .before .before .write-each .ensures
-    ∙ encrypted-kept (setFrom (a .p)) (a .public .now) (a .message .now) (a .random .now) (a .start) (mask-degree-most _ (ready-set (s .pre .0))) (c .before .before .before .before .before .before .before .before .before .before .before .before .before .before .before .prepare .ensures .1)
+    ∙ ap (λ (w : List ℕ). octetsFrom p (degree p) (encryptedWith p (polynomialFrom p (a .public .now)) (smallOf p (a .message .now)) (λ j k. getD w (j * p .n + k) 0) (noiseOf p (a .noise .now)))) (call .prepare .ensures .1)
 
 pub write-shared-spec : {M : Type 1} → statement M
 write-shared-spec =
     tie.close
     (tie.spec
-    (λ c. search needs)
-    (λ c κs. search needs)
-    (λ c. search needs)
     prepare-requires
     write-each-requires
-    (λ c. search needs)
     (λ c. search needs)
     (λ c. search needs)
     (λ c. search needs)

@@ -1,14 +1,12 @@
--- `write_unshared` asks nothing of the lists.
+-- `write_unshared`: an empty list is not prepared.
 -- Assumes nothing.
-use Prim.Native.Nat.{ℕ}
 use native.Mathlib.Omega.{arith}
-use mathlib.Core.Path.{_≡_}
 use borrow.Author.Needs.{needs}
 use Rattle.ciphertext_elements.proofs.write_unshared.Statement.{statement}
 use Rattle.ciphertext_elements.proofs.write_unshared.Tie as tie
 
 write-each-requires : tie.Need-write-each-requires
-write-each-requires c κs = (c .before .before .before .before .before .before .before .before .before .pre .0, c .before .before .before .before .before .before .before .before .before .pre .1, (λ e. let z : _≡_ {A = ℕ} 0 1 = cc in absurd (omega arith)))
+write-each-requires c κs = let s = c .before .before .before .before .before .before .before .before in (s .pre, (λ h. absurd (omega arith)))
 
 returns : tie.Need-returns
 returns c = search needs
@@ -17,7 +15,6 @@ pub write-unshared-spec : {M : Type 1} → statement M
 write-unshared-spec =
     tie.close
     (tie.spec
-    (λ c. search needs)
     (λ c. search needs)
     write-each-requires
     (λ c. search needs)
