@@ -18,7 +18,15 @@ ghost use Rattle.judging.specs.Reading.{coefficientNumber, fitNumber};
 ghost use Rattle.values.specs.Horner.{stepped, rowOf, fitsAt, rowFits, Placed};
 
 // The element at a place of the octets, read into a part of the work words.
-fn read_element(octets: &[u8], element: usize, n: usize, qlen: usize, q: u32, work: &mut [u32], at: usize) -> u32
+fn read_element(
+    octets: &[u8],
+    element: usize,
+    n: usize,
+    qlen: usize,
+    q: u32,
+    work: &mut [u32],
+    at: usize,
+) -> u32
     requires { ⌜ Sizes n qlen (now work) × (element < 45) × (element * n * qlen + n * qlen ≤ length (now octets)) × (at + n ≤ length (now work)) ⌝ }
     ensures { λ r. ⌜ r ≡ coefficientNumber (fitsAt q n qlen (now (octets .entry)) element) ⌝ }
     ensures { λ r. ⌜ (r ≡ 0 → Placed n at (flat n qlen (now (octets .entry)) element) (now (work .entry)) (now (work .exit))) ⌝ }
