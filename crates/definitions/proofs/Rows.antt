@@ -15,7 +15,8 @@ use Rattle.definitions.proofs.Monomials.{monomialCount-suc, monomialCou
 pub monomialAt-tail : (d e i : ℕ) → monomialAt (d + e) (monomialCount (d + e) - monomialCount d + i) ≡ monomialAt d i
 monomialAt-tail d zero i = rw (add-zero d, sub-self (monomialCount d), zero-add i)
 monomialAt-tail d (suc e) i =
-    let at : monomialCount (suc (d + e)) - monomialCount d + i ≡ d + e + 2 + (monomialCount (d + e) - monomialCount d + i) = omega (arith, monomialCount-suc (d + e), monomialCount-mono d e) in
+    let at : monomialCount (suc (d + e)) - monomialCount d + i ≡ d + e + 2 + (monomialCount (d + e) - monomialCount d + i) =
+    omega (arith, monomialCount-suc (d + e), monomialCount-mono d e) in
     rw (add-suc d e, at) (monomialAt-rest (d + e) _ ∙ monomialAt-tail d e i)
 
 -- the place of x^i y^j in the list of degree d

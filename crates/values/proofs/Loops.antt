@@ -119,7 +119,7 @@ module _ {n q at factor : ℕ} {h : ℕ → Element} {fits : ℕ → Bool} {old 
   hornerAt-all e r = record { placed = rw e at (r .held) (omega arith); before = r .before; as-long = r .as-long }
 
   module _ {c next : ℕ} {f : Element} {work mid : List ℕ} (apart : (factor + n ≤ at) × (at + n ≤ next))
-    (r : HornerAt n q at factor h fits old c work) (p : Placed n next f work mid) where
+      (r : HornerAt n q at factor h fits old c work) (p : Placed n next f work mid) where
     held-on : 0 < c → (k : ℕ) → k < n → part mid at k ≡ horner n (part old factor) h c k % q
     held-on z k l = p .before (at + k) (omega (arith, apart .1)) ∙ r .held z k l
 

@@ -37,9 +37,10 @@ returns c =
     let a = c .before .before .before .before .before .before .before .args in
     let p = c .before .before .before .before .before .before .before .pre in
     let e : a .element * a .n * a .qlen + a .n * a .qlen - a .element * a .n * a .qlen ≡ a .n * a .qlen = omega arith in
-    let given : c .before .before .decode .last .1 .1 .0 ≡ decoded (a .qlen) (a .n) (take (a .n * a .qlen) (drop (a .element * a .n * a .qlen) (a .octets .now))) =
+    let from : List ℕ = drop (a .element * a .n * a .qlen) (a .octets .now) in
+    let given : c .before .before .decode .last .1 .1 .0 ≡ decoded (a .qlen) (a .n) (take (a .n * a .qlen) from) =
     c .before .before .decode .ensures
-    ∙ ap₂ (λ (m k : ℕ). decoded (a .qlen) m (take k (drop (a .element * a .n * a .qlen) (a .octets .now)))) (length-borrowed (a .at) (a .n) (a .work .now) (p .3)) e in
+    ∙ ap₂ (λ (m k : ℕ). decoded (a .qlen) m (take k from)) (length-borrowed (a .at) (a .n) (a .work .now) (p .3)) e in
     putMid-written (a .at) (a .n) (a .work .now) _ (ap length given ∙ length-decoded _ _ _)
     ∙ ap (λ (l : List ℕ). written (a .at) l (a .work .now)) (given ∙ decoded-element (a .qlen) (a .n) (a .element) (a .octets .now) (p .2))
 

@@ -90,10 +90,11 @@ loop-again c =
     let l = turn (passed c) in
     let a = start l .args in
     let r = l .before .loop in
-    let passing = sym (passed c .before .before .before .row .ensures .0) ∙ passed c .if1 .left in
+    let zero = sym (passed c .before .before .before .row .ensures .0) ∙ passed c .if1 .left in
+    let fit = number-fits (rowFits (a .d) (fitsAt (a .q) (a .n) (a .qlen) (a .octets .now)) (r .t)) zero in
     let f = flat (a .n) (a .qlen) (a .octets .now) in (
       omega (arith, l .loop-test .taken),
-      hornerAt-next (omega arith, omega arith) (r .inv .1) (taken (passed c)) (number-fits (rowFits (a .d) (fitsAt (a .q) (a .n) (a .qlen) (a .octets .now)) (r .t)) passing)
+      hornerAt-next (omega arith, omega arith) (r .inv .1) (taken (passed c)) fit
           (λ k m. ap (λ (x : ℕ). x % a .q) (row-cong (a .n) (a .d) f (r .t) (same-x l) k m)) (c .before .before .step .ensures),
     )
 
