@@ -1,23 +1,21 @@
 -- What every export leaves for a set that its constructor refused: the number, and nothing is touched. For an accepted set, which is the one
 -- named (checked-accepted), the call behind keeps the export's promise.
 --
---   ..-refused           the refused arm of each export
---   accepted-value       the accepted arm of an export that itself writes the values
+--   ..-refused           the refused arm of the export of each call
 --   degrees-most         the degrees of an accepted set;  count-most: so it has at most 15 monomials
 -- Assumes nothing.
 use Prim.Native.Nat.{ℕ, _≤_}
-use mathlib.Core.Path.{_≡_, refl, sym, ap, _∙_}
+use mathlib.Core.Path.{_≡_}
 use mathlib.Core.Bool.{Bool}
-use mathlib.Core.List.{List, []}
-use Rattle.definitions.specs.Refusals.{Test, Answer, untouched, accepted, firstRefusal, answer, number, output}
-use Rattle.definitions.specs.Parameters.{Parameters, Limits, LimitsExit, limitsAnswer, limitsExit, Lengths, LengthsExit, lengthsAnswer, lengthsExit, setTests, monomialCount}
+use mathlib.Core.List.{List}
+use Rattle.definitions.specs.Refusals.{Test, Answer, untouched, answer}
+use Rattle.definitions.specs.Parameters.{Parameters, monomialCount}
 use Rattle.definitions.specs.Calls.{lengthTests, KeygenExit, keygenLeaves, keygenAnswer, keygenExit, IsZeroExit, isZeroLeaves, isZeroAnswer, isZeroExit, EncryptExit, encryptLeaves, encryptAnswer, encryptExit, AddExit, addLeaves, addAnswer, addExit, DecryptExit, decryptLeaves, decryptAnswer, decryptExit}
 use Rattle.definitions.specs.Conversions.{conversionLeaves, fromOctetsAnswer, fromOctetsExit, toOctetsAnswer, toOctetsExit, packedFromAnswer, packedFromExit, packedToAnswer, packedToExit}
-use Rattle.definitions.proofs.Refusals.{answer-untouched-at, answer-accepted}
 use Rattle.definitions.proofs.Parameters.{accepted-set, key-degree-most, mask-degree-most}
 use Rattle.definitions.proofs.Exits.{exit-set}
 use Rattle.lengths.proofs.Bounds.{monomialCount-le}
-use Rattle.parameters.specs.Answers.{setFrom, setAnswer, checkedAs}
+use Rattle.parameters.specs.Answers.{setAnswer, checkedAs}
 use Rattle.parameters.specs.declared.Parameters as Struct
 use Rattle.parameters.specs.declared.Checked.{Checked}
 use Rattle.parameters.proofs.Answers.{checked-accepted, checked-refused}
@@ -27,17 +25,6 @@ module _ (s : Parameters) {r : Checked} (e : checkedAs r ≡ setAnswer s) where
     refused : {A E : Type 0} (leaves : Answer A → E) (exact : Bool) (later : List Test) (a : A)
         → leaves (untouched k) ≡ leaves (answer (lengthTests s exact) later a)
     refused leaves exact later a = let told = checked-refused s e same in exit-set leaves s exact later a (told .0) (told .1)
-
-    refused-set : {A : Type 0} (a : A) → untouched k ≡ answer (setTests s) [] a
-    refused-set a = let told = checked-refused s e same in sym (answer-untouched-at (setTests s) [] a k (told .1) (sym (told .0)))
-
-    pub limits-refused : (old : Limits) → _≡_ {A = LimitsExit} (record { refusal = k; limits = old }) (limitsExit s old)
-    unfolding limitsExit limitsAnswer
-    limits-refused old = ap (λ (x : Answer Limits). record { refusal = number x; limits = output (λ l. l) x old }) (refused-set _)
-
-    pub lengths-refused : (old : Lengths) → _≡_ {A = LengthsExit} (record { refusal = k; lengths = old }) (lengthsExit s old)
-    unfolding lengthsExit lengthsAnswer
-    lengths-refused old = ap (λ (x : Answer Lengths). record { refusal = number x; lengths = output (λ l. l) x old }) (refused-set _)
 
     pub keygen-refused : (random secret public : List ℕ) (used : ℕ) (work : List ℕ)
         → _≡_ {A = KeygenExit} (record { refusal = k; secret = secret; public = public; used = used; work = work }) (keygenExit s random secret public used work)
@@ -80,16 +67,8 @@ module _ (s : Parameters) {r : Checked} (e : checkedAs r ≡ setAnswer s) where
       unfolding packedToExit packedToAnswer
       pack-refused = refused (λ x. conversionLeaves x out) _ _ _
 
-  module _ {p : Struct.Parameters} (same : r ≡ Checked.Accepted p) where
-    pub accepted-value : {A E : Type 0} (leaves : Answer A → E) (value : Parameters → A) (x : A) → x ≡ value (setFrom p)
-        → leaves (accepted x) ≡ leaves (answer (setTests s) [] (value s))
-    unfolding firstRefusal
-    accepted-value leaves value x is =
-        let told = checked-accepted s e same in
-        ap leaves (ap (λ y. accepted y) (is ∙ ap value (told .1)) ∙ sym (answer-accepted (setTests s) [] (value s) (told .0) refl))
-
-    pub degrees-most : (s .dx ≤ 2) × (s .dr ≤ 2)
-    degrees-most = let set = accepted-set s (checked-accepted s e same .0) in (key-degree-most s set, mask-degree-most s set)
+  pub degrees-most : {p : Struct.Parameters} → r ≡ Checked.Accepted p → (s .dx ≤ 2) × (s .dr ≤ 2)
+  degrees-most same = let set = accepted-set s (checked-accepted s e same .0) in (key-degree-most s set, mask-degree-most s set)
 
 pub count-most : (d : ℕ) {m : ℕ} → m ≡ monomialCount d → d ≤ 4 → m ≤ 15
 count-most d e h = rw e (monomialCount-le d h)

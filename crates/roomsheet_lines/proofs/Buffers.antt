@@ -128,23 +128,20 @@ module _ (text : List ℕ) (have : ℕ) (fits : have ≤ length text) (r : Lines
   pub moved-within : r .used + k ≤ length text
   moved-within = omega (arith, used-within text have fits r out a, kept .within)
 
-  rest : Text
+  abbrev rest : Text
   rest = drop (r .used) (take have text)
 
   length-rest : length rest ≡ have - r .used
-  unfolding rest
   length-rest = length-drop (r .used) (take have text) ∙ ap (λ (n : ℕ). n - r .used) (length-take-le have text fits)
 
   -- the octets moved are those of the rest
   take-rest : take k (drop (r .used) text) ≡ take k rest
-  unfolding rest
   take-rest =
       ap (λ (t : Text). take k (drop (r .used) t)) (sym (take-append-drop have text))
       ∙ ap (take k) (drop-append-le (r .used) (take have text) (drop have text) (a .used-le))
       ∙ take-append-le k (drop (r .used) (take have text)) (drop have text) (omega (arith, kept .within, length-rest))
 
   kept-answered : Answered (take have text) (take (r .written) out) (take k rest)
-  unfolding rest
   kept-answered =
       ⊎-elim
       (λ e. rw (take-all k rest (omega (arith, length-rest))) (a .answered))
@@ -152,7 +149,6 @@ module _ (text : List ℕ) (have : ℕ) (fits : have ≤ length text) (r : Lines
       (kept .whole)
 
   pub chunk-answered : (after : List ℕ) → take k after ≡ take k (drop (r .used) text) → ChunkAnswered (take have text) (record { kept = k; written = r .written; done = r .done }) after out
-  unfolding rest
   chunk-answered after moved =
       record {
         kept-le = omega (arith, kept .within, length-take-le have text fits);

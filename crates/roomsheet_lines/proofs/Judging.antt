@@ -1,22 +1,21 @@
 -- The answer to a line, by what was read of it: 11, or what the constructor of its set answered.
 -- Assumes nothing.
 use Prim.Native.Nat.{ℕ}
-use mathlib.Core.Path.{_≡_, refl, sym, ap, _∙_}
+use mathlib.Core.Path.{_≡_, sym, ap, _∙_}
 use mathlib.Core.Bool.{Bool, true, false, not}
-use mathlib.Core.List.{List, []}
+use mathlib.Core.List.{List}
 use lib.ListN.{length}
 use lib.Seq.{take-length}
 use borrow.Author.Tests.{not-true, not-false}
-use Rattle.definitions.specs.Refusals.{accepted, firstRefusal}
-use Rattle.definitions.specs.Parameters.{limitsAnswer, limitsOf, setTests}
+use Rattle.definitions.specs.Refusals.{accepted}
+use Rattle.definitions.specs.Parameters.{limitsAnswer, limitsOf}
 use Rattle.definitions.specs.Roomsheet.{Text, decimalText, numbersOf, setOf, limitsText, lineAnswer}
-use Rattle.definitions.proofs.Refusals.{answer-accepted, answer-untouched-at}
 use Rattle.definitions.proofs.Roomsheet.{lineAnswer-malformed, lineAnswer-set}
 use Rattle.parameters.specs.Answers.{setFrom, limitsFrom, setAnswer, checkedAs}
 use Rattle.parameters.specs.declared.Parameters as Struct
 use Rattle.parameters.specs.declared.SetLimits.{SetLimits}
 use Rattle.parameters.specs.declared.Checked.{Checked}
-use Rattle.parameters.proofs.Answers.{checked-accepted, checked-refused}
+use Rattle.parameters.proofs.Answers.{accepted-answer, refused-answer}
 use Rattle.roomsheet_parse.specs.Numbers.{NumbersRead}
 
 module _ (line : Text) (read : Bool) (numbers : List ℕ) (n : NumbersRead 6 line read numbers) where
@@ -32,14 +31,9 @@ module _ (line : Text) (read : Bool) (numbers : List ℕ) (n : NumbersRead 6 lin
 
     pub judged-refused : (k : ℕ) → r ≡ Checked.Refused k → decimalText k ≡ lineAnswer line
     unfolding limitsText limitsAnswer
-    judged-refused k same =
-        let f = checked-refused (setOf numbers) told same in
-        ap limitsText (sym (answer-untouched-at (setTests (setOf numbers)) [] _ k (f .1) (sym (f .0)))) ∙ judged
+    judged-refused k same = ap limitsText (refused-answer (setOf numbers) told same _) ∙ judged
 
     pub judged-accepted : (p : Struct.Parameters) → r ≡ Checked.Accepted p → (x : SetLimits) → limitsFrom x ≡ limitsOf (setFrom p)
         → limitsText (accepted (limitsFrom x)) ≡ lineAnswer line
-    unfolding limitsAnswer firstRefusal
-    judged-accepted p same x is =
-        let f = checked-accepted (setOf numbers) told same in
-        ap (λ l. limitsText (accepted l)) (is ∙ ap limitsOf (f .1))
-        ∙ ap limitsText (sym (answer-accepted (setTests (setOf numbers)) [] _ (f .0) refl)) ∙ judged
+    unfolding limitsAnswer
+    judged-accepted p same x is = ap limitsText (accepted-answer (setOf numbers) told same limitsOf (limitsFrom x) is) ∙ judged

@@ -1,12 +1,12 @@
 -- `giophantus_lengths` writes the five lengths of the set that the constructor accepted.
 -- Assumes nothing.
+use mathlib.Core.Path.{ap}
 use borrow.Author.Needs.{needs}
 use Rattle.definitions.specs.Refusals.{Answer, number, output}
 use Rattle.definitions.specs.Parameters.{Lengths, LengthsExit, lengthsOf, lengthsAnswer, lengthsExit}
 use Rattle.definitions.proofs.Parameters.{Accepted, accepted-set, key-degree-most, mask-degree-most}
 use Rattle.parameters.specs.Answers.{setFrom}
-use Rattle.parameters.proofs.Answers.{checked-fits}
-use Rattle.giophantus.proofs.Exits.{accepted-value, lengths-refused}
+use Rattle.parameters.proofs.Answers.{checked-fits, accepted-answer, refused-answer}
 use Rattle.giophantus.proofs.giophantus_lengths.Statement.{statement}
 use Rattle.giophantus.proofs.giophantus_lengths.Tie as tie
 
@@ -30,7 +30,7 @@ returns c =
     let public = message .before in
     let secret = public .before in
     let p = secret .before .before in
-    accepted-value _ (p .before .before .new .ensures) (p .p .given .1) (leaves _) lengthsOf _
+    ap (leaves _) (accepted-answer _ (p .before .before .new .ensures) (p .p .given .1) lengthsOf _
     (λ i.
     record {
       secret = secret .secret-length .ensures i;
@@ -38,10 +38,11 @@ returns c =
       message = message .message-length .ensures i;
       ciphertext = ciphertext .ciphertext-length .ensures i;
       work = c .work-length .ensures i;
-    })
+    }))
 
 returns-2 : tie.Need-returns-2
-returns-2 c = let k = c .before in lengths-refused _ (k .before .before .new .ensures) (k .k .given .1) _
+unfolding lengthsExit lengthsAnswer
+returns-2 c = let k = c .before in ap (leaves _) (refused-answer _ (k .before .before .new .ensures) (k .k .given .1) _)
 
 pub giophantus-lengths-spec : {M : Type 1} → statement M
 giophantus-lengths-spec =

@@ -1,11 +1,11 @@
 -- `giophantus_limits` writes the bound and the headroom of the set that the constructor accepted.
 -- Assumes nothing.
+use mathlib.Core.Path.{ap}
 use borrow.Author.Needs.{needs}
 use Rattle.definitions.specs.Refusals.{Answer, number, output}
 use Rattle.definitions.specs.Parameters.{Limits, LimitsExit, limitsOf, limitsAnswer, limitsExit}
 use Rattle.parameters.specs.Answers.{limitsFrom}
-use Rattle.parameters.proofs.Answers.{checked-fits}
-use Rattle.giophantus.proofs.Exits.{accepted-value, limits-refused}
+use Rattle.parameters.proofs.Answers.{checked-fits, accepted-answer, refused-answer}
 use Rattle.giophantus.proofs.giophantus_limits.Statement.{statement}
 use Rattle.giophantus.proofs.giophantus_limits.Tie as tie
 
@@ -16,10 +16,11 @@ returns : tie.Need-returns
 unfolding limitsExit limitsAnswer
 returns c =
     let p = c .before .before in
-    accepted-value _ (p .before .before .new .ensures) (p .p .given .1) (leaves _) limitsOf (limitsFrom (c .limits .result)) (c .limits .ensures)
+    ap (leaves _) (accepted-answer _ (p .before .before .new .ensures) (p .p .given .1) limitsOf (limitsFrom (c .limits .result)) (c .limits .ensures))
 
 returns-2 : tie.Need-returns-2
-returns-2 c = let k = c .before in limits-refused _ (k .before .before .new .ensures) (k .k .given .1) _
+unfolding limitsExit limitsAnswer
+returns-2 c = let k = c .before in ap (leaves _) (refused-answer _ (k .before .before .new .ensures) (k .k .given .1) _)
 
 pub giophantus-limits-spec : {M : Type 1} → statement M
 giophantus-limits-spec =

@@ -7,15 +7,6 @@ use Rattle.roomsheet_lines.proofs.Judging.{judged-malformed, judged-acc
 use Rattle.roomsheet_lines.proofs.put_answer.Statement.{statement}
 use Rattle.roomsheet_lines.proofs.put_answer.Tie as tie
 
-abbrev parsed : tie.Else1 → tie.After-parse-numbers
-parsed c = c .before .before
-
-abbrev checked : tie.After-p → tie.After-new
-checked c = c .before .before
-
-abbrev checked-2 : tie.After-k → tie.After-new
-checked-2 c = c .before .before
-
 returns : tie.Need-returns
 returns c =
     let told = c .before .before in
@@ -23,15 +14,15 @@ returns c =
     rw (← judged-malformed _ _ _ (refused .before .before .parse-numbers .ensures) (refused .if1 .taken)) (told .put-number .ensures)
 
 limits-requires : tie.Need-limits-requires
-limits-requires c κs = let p = c .before .before in checked-fits _ (checked p .new .ensures) (p .p .given .1)
+limits-requires c κs = let p = c .before .before in checked-fits _ (p .before .before .new .ensures) (p .p .given .1)
 
 returns-2 : tie.Need-returns-2
 unfolding setOf
 returns-2 c =
     let told = c .before .before in
     let p = told .before .before .before .before in
-    let new = checked p in
-    rw (← judged-accepted _ _ _ (parsed (new .before) .parse-numbers .ensures) (new .before .if1 .left) (search needs) _ (new .new .ensures) _
+    let new = p .before .before in
+    rw (← judged-accepted _ _ _ (new .before .before .before .parse-numbers .ensures) (new .before .if1 .left) (search needs) _ (new .new .ensures) _
     (p .p .given .1) _ (told .before .limits .ensures)) (told .put-limits .ensures)
 
 returns-3 : tie.Need-returns-3
@@ -39,8 +30,8 @@ unfolding setOf
 returns-3 c =
     let told = c .before .before in
     let k = told .before .before .before in
-    let new = checked-2 k in
-    rw (← judged-refused _ _ _ (parsed (new .before) .parse-numbers .ensures) (new .before .if1 .left) (search needs) _ (new .new .ensures) _
+    let new = k .before .before in
+    rw (← judged-refused _ _ _ (new .before .before .before .parse-numbers .ensures) (new .before .if1 .left) (search needs) _ (new .new .ensures) _
     (k .k .given .1)) (told .put-number2 .ensures)
 
 pub put-answer-spec : {M : Type 1} → statement M

@@ -1,2 +1,0 @@
--- Laws of the input buffer.
-pub mod Reading
