@@ -55,7 +55,8 @@ module _ (text before out : List ℕ) (used written : ℕ) (a : Answering text b
         let size : end - used ≡ length (upTo 10 (drop used text)) = omega arith in
         ap (λ (n : ℕ). take n (drop used text)) size ∙ take-upTo 10 (drop used text)
 
-    pub answering-next : (after : List ℕ) (written′ : ℕ) → length after ≡ length out → written + 33 ≤ length out → Appended out written after written′ (lineText (take (end - used) (drop used text))) → Answering text before after (end + 1) written′
+    pub answering-next : (after : List ℕ) (written′ : ℕ) → length after ≡ length out → written + 33 ≤ length out
+        → Appended out written after written′ (lineText (take (end - used) (drop used text))) → Answering text before after (end + 1) written′
     answering-next after written′ same room appended =
         record {
           used-le = omega (arith, end-le);
@@ -99,7 +100,8 @@ pub moving-start : (text : List ℕ) (from count : ℕ) → from + count ≤ len
 moving-start text from count room =
     record { i-le = omega arith; room = room; kept = refl; moved = refl; others = λ j h. refl }
 
-pub moving-next : (before text : List ℕ) (from count i : ℕ) → Moving before text from count i → i < count → Moving before (set text i (getD text (from + i) 0)) from count (i + 1)
+pub moving-next : (before text : List ℕ) (from count i : ℕ) → Moving before text from count i → i < count
+    → Moving before (set text i (getD text (from + i) 0)) from count (i + 1)
 moving-next before text from count i m h =
     let v = getD text (from + i) 0 in
     record {
@@ -145,10 +147,12 @@ module _ (text : List ℕ) (have : ℕ) (fits : have ≤ length text) (r : Lines
   kept-answered =
       ⊎-elim
       (λ e. rw (take-all k rest (omega (arith, length-rest))) (a .answered))
-      (λ e. rw (e .1, ← append-nil (take (r .written) out)) (answered-then (take have text) rest (take 81 rest) (take (r .written) out) [] (a .answered) (answered-cut rest (a .unended (e .0)) (omega (arith, length-rest, kept .within)))))
+      (λ e. rw (e .1, ← append-nil (take (r .written) out))
+      (answered-then (take have text) rest (take 81 rest) (take (r .written) out) [] (a .answered) (answered-cut rest (a .unended (e .0)) (omega (arith, length-rest, kept .within)))))
       (kept .whole)
 
-  pub chunk-answered : (after : List ℕ) → take k after ≡ take k (drop (r .used) text) → ChunkAnswered (take have text) (record { kept = k; written = r .written; done = r .done }) after out
+  pub chunk-answered : (after : List ℕ) → take k after ≡ take k (drop (r .used) text)
+      → ChunkAnswered (take have text) (record { kept = k; written = r .written; done = r .done }) after out
   chunk-answered after moved =
       record {
         kept-le = omega (arith, kept .within, length-take-le have text fits);

@@ -1,7 +1,7 @@
 -- A line of numbers, field after field.
 --
 --   numbersFit           so many fields, each a number, by recursion: `wellFormed` without the length of the line
---   numbersFit-..        the same, by the first field;  numbersOf-..: the numbers, by the first field
+--   numbersFit-..        the same, by the first field
 --   Progress             what holds after i fields;  progress-..: where it begins, after a field, and at each way out
 -- Assumes nothing.
 use Prim.Native.Nat.{ℕ, zero, suc, _+_, _-_, _≤_, _<_}
@@ -72,14 +72,6 @@ numbersFit-zero t =
       | no g ↦ ap (partsFit 0) (split-last 32 t (upTo-whole 32 t (omega (arith, length-upTo 32 t))))
     ]
 
-pub numbersOf-last : (t : Text) → Without 32 t → numbersOf t ≡ decimal t ∷ []
-unfolding numbersOf
-numbersOf-last t w = ap (map decimal) (split-last 32 t w)
-
-pub numbersOf-more : (t : Text) → length (upTo 32 t) < length t → numbersOf t ≡ decimal (upTo 32 t) ∷ numbersOf (past 32 t)
-unfolding numbersOf
-numbersOf-more t h = ap (map decimal) (split-more 32 t h)
-
 -- ---- the loop
 
 pub record Progress (line : Text) (count : ℕ) (before numbers : List ℕ) (at i : ℕ) : Type 0 where
@@ -142,6 +134,7 @@ module _ (line : Text) (count : ℕ) (before numbers : List ℕ) (at i : ℕ) (p
       stored-next = ap (λ (n : ℕ). take n (set numbers i value)) (add-one i) ∙ take-suc-set numbers i value (omega arith)
 
       pub progress-end : next ≡ length line → NumbersRead count line (eqb (i + 1) count) (set numbers i value)
+      unfolding numbersOf
       progress-end e =
           let whole = upTo-whole 32 (drop at line) (omega (arith, found .2, length-drop at line)) in
           let is-number : isNumber (drop at line) ≡ true = ap isNumber (sym whole) ∙ found .0 in
@@ -149,7 +142,7 @@ module _ (line : Text) (count : ℕ) (before numbers : List ℕ) (at i : ℕ) (p
           = judged (suc (count - (i + 1))) (omega arith) ∙ numbersFit-last (count - (i + 1)) (drop at line) whole
           ∙ rw is-number (sym (eqb-left i count more)) in
           let numbers-end : numbersOf (drop at line) ≡ value ∷ []
-          = numbersOf-last (drop at line) whole ∙ ap (λ (x : ℕ). x ∷ []) (ap decimal (sym whole) ∙ sym (found .1)) in
+          = ap (map decimal) (split-last 32 (drop at line) whole) ∙ ap (λ (x : ℕ). x ∷ []) (ap decimal (sym whole) ∙ sym (found .1)) in
           record {
             told = sym told;
             numbers-are = λ t.
@@ -167,7 +160,8 @@ module _ (line : Text) (count : ℕ) (before numbers : List ℕ) (at i : ℕ) (p
             past-drop 32 (drop at line) ended ∙ drop-drop (suc (length (fieldAt line at))) at line ∙ ap (λ (n : ℕ). drop n line) place
 
         numbers-next : numbersOf (drop at line) ≡ value ∷ numbersOf (drop (next + 1) line)
-        numbers-next = numbersOf-more (drop at line) ended ∙ ap₂ _∷_ (sym (found .1)) (ap numbersOf past-next)
+        unfolding numbersOf
+        numbers-next = ap (map decimal) (split-more 32 (drop at line) ended) ∙ ap₂ _∷_ (sym (found .1)) (ap numbersOf past-next)
 
         pub progress-next : Progress line count before (set numbers i value) (next + 1) (i + 1)
         progress-next =

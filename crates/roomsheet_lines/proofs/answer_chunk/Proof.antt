@@ -10,17 +10,23 @@ use Rattle.roomsheet_lines.proofs.answer_chunk.Tie as tie
 slice-aggregate-answer-lines : tie.Need-slice-aggregate-answer-lines
 slice-aggregate-answer-lines c = sym (length-take-le _ _ (c .before .before .before .pre))
 
+abbrev start : tie.After-answer-lines → tie.Start
+start c = c .before .before .before .before .before
+
 sub-kept-of : tie.Need-sub-kept-of
-sub-kept-of c = used-within _ _ (c .before .before .before .before .before .before .before .pre) _ _ (c .before .before .answer-lines .ensures)
+sub-kept-of c = let lines = c .before .before in used-within _ _ (start lines .pre) _ _ (lines .answer-lines .ensures)
 
 move-front-requires : tie.Need-move-front-requires
 move-front-requires c κs =
-    moved-within _ _ (c .before .before .before .before .before .before .before .before .before .pre) _ _ (c .before .before .before .before .answer-lines .ensures) _ (c .before .kept-of .ensures)
+    let lines = c .before .before .before .before in
+    moved-within _ _ (start lines .pre) _ _ (lines .answer-lines .ensures) _ (c .before .kept-of .ensures)
 
 returns : tie.Need-returns
 returns c =
-    chunk-answered _ _ (c .before .before .before .before .before .before .before .before .before .before .before .before .pre) _ _ (c .before .before .before .before .before .before .before .answer-lines .ensures) _ (c .before .before .before .before .kept-of .ensures) _
-    (c .before .before .move-front .ensures)
+    let moved = c .before .before in
+    let kept = moved .before .before in
+    let lines = kept .before .before .before in
+    chunk-answered _ _ (start lines .pre) _ _ (lines .answer-lines .ensures) _ (kept .kept-of .ensures) _ (moved .move-front .ensures)
 
 pub answer-chunk-spec : {M : Type 1} → statement M
 answer-chunk-spec =

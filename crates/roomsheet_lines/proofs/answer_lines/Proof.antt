@@ -25,16 +25,26 @@ returns c =
 part-answer-line-end : tie.Need-part-answer-line-end Inv-loop μ-loop
 part-answer-line-end c = end-le _ _ _ _ _ (c .before .before .before .loop .inv) _ (c .before .find-newline .ensures)
 
+-- where the line that is answered was found
+abbrev found : tie.After-answer-line Inv-loop μ-loop → tie.Else1 Inv-loop μ-loop
+found c = c .before .before .before
+
 add-used : tie.Need-add-used Inv-loop μ-loop
-add-used c = omega (arith, end-le _ _ _ _ _ (c .before .before .before .before .before .before .before .before .loop .inv) _ (c .before .before .before .before .before .before .find-newline .ensures), c .before .before .before .before .before .before .before .before .before .before .before .good)
+add-used c =
+    let line = found (c .before .before) in
+    let start = line .before .before .before .before .before .before in
+    omega (arith, end-le _ _ _ _ _ (line .before .before .before .loop .inv) _ (line .before .find-newline .ensures), start .good)
 
 loop-again : tie.Need-loop-again Inv-loop μ-loop
 loop-again c =
-    answering-next _ _ _ _ _ (c .before .before .before .before .before .before .before .before .loop .inv) _ (c .before .before .before .before .before .before .find-newline .ensures) (c .before .before .before .before .before .if1 .left) _ _
-    (c .before .before .answer-line .kept .1 .0) (omega (arith, c .before .before .before .before .before .before .before .loop-test .taken, c .before .before .before .before .before .before .before .before .loop .inv)) (c .before .before .answer-line .ensures)
+    let call = c .before .before in
+    let line = found call in
+    let test = line .before .before in
+    answering-next _ _ _ _ _ (test .before .loop .inv) _ (line .before .find-newline .ensures) (line .if1 .left) _ _ (call .answer-line .kept .1 .0)
+    (omega (arith, test .loop-test .taken, test .before .loop .inv)) (call .answer-line .ensures)
 
 loop-less : tie.Need-loop-less Inv-loop μ-loop
-loop-less c = omega (arith, loop-again c .used-le, c .before .before .before .before .before .before .find-newline .ensures)
+loop-less c = omega (arith, loop-again c .used-le, found (c .before .before) .before .find-newline .ensures)
 
 returns-2 : tie.Need-returns-2 Inv-loop μ-loop
 returns-2 c = stopped-full _ _ _ _ _ (c .before .loop .inv) (c .loop-test .left)

@@ -29,4 +29,6 @@ returns : tie.Need-returns Inv-loop μ-loop
 returns c = counting-end _ _ _ _ (c .before .loop .inv) (c .loop-test .left)
 
 pub decimal-length-spec : {M : Type 1} → statement M
-decimal-length-spec = tie.close (tie.spec Inv-loop μ-loop loop-holds (λ c. search needs) add-digits mul-power (λ c. search needs) (λ c. search needs) loop-again returns)
+decimal-length-spec =
+    tie.close
+    (tie.spec Inv-loop μ-loop loop-holds (λ c. search needs) add-digits mul-power (λ c. search needs) (λ c. search needs) loop-again returns)

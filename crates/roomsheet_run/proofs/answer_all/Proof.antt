@@ -22,28 +22,32 @@ loop-holds c = omega arith
 slice-aggregate-write-all : tie.Need-slice-aggregate-write-all Inv-loop μ-loop
 slice-aggregate-write-all c = sym (length-take-le _ _ (c .before .before .before .before .before .answer-chunk .ensures .written-le))
 
+-- the call before the write, in its turn of the loop
+abbrev chunk : tie.After-write-all Inv-loop μ-loop → tie.After-answer-chunk Inv-loop μ-loop
+chunk c = c .before .before .before .before .before .before
+
 returns : tie.Need-returns Inv-loop μ-loop
 returns c =
-    let told = c .before .before .before .before .before .before .before .answer-chunk .ensures in
-    let l = c .before .before .before .before .before .before .before .before .before .before .loop in
+    let call = chunk (c .before) .answer-chunk in
+    let l = chunk (c .before) .before .before .before .loop in
     record {
-      within = omega (arith, told .kept-le, length-take (l .have) (l .input), c .before .before .before .before .before .before .before .answer-chunk .kept .0);
-      short = told .short (c .if1 .taken);
-      unended = told .unended (c .if1 .taken);
+      within = omega (arith, call .ensures .kept-le, length-take (l .have) (l .input), call .kept .0);
+      short = call .ensures .short (c .if1 .taken);
+      unended = call .ensures .unended (c .if1 .taken);
     }
 
 loop-again : tie.Need-loop-again Inv-loop μ-loop
 loop-again c =
-    let told = c .before .before .before .before .before .before .before .answer-chunk .ensures in
-    let l = c .before .before .before .before .before .before .before .before .before .before .loop in
-    let input = c .before .before .before .before .before .before .before .answer-chunk .kept .0 in
-    let output = c .before .before .before .before .before .before .before .answer-chunk .kept .1 .1 .0 in
-    (omega (arith, told .kept-le, length-take (l .have) (l .input), input), omega (arith, output, l .inv .1), input ∙ l .inv .2, output ∙ l .inv .3)
+    let call = chunk (c .before) .answer-chunk in
+    let l = chunk (c .before) .before .before .before .loop in
+    let output = call .kept .1 .1 .0 in
+    (omega (arith, call .ensures .kept-le, length-take (l .have) (l .input), call .kept .0), omega (arith, output, l .inv .1), call .kept .0 ∙ l .inv .2, output ∙ l .inv .3)
 
 loop-less : tie.Need-loop-less Inv-loop μ-loop
 loop-less c =
-    let l = c .before .before .before .before .before .before .before .before .before .before .loop in
-    omega (arith, c .before .before .before .before .before .before .before .answer-chunk .ensures .onward (c .if1 .left) (loop-again c .1), length-take (l .have) (l .input))
+    let call = chunk (c .before) .answer-chunk in
+    let l = chunk (c .before) .before .before .before .loop in
+    omega (arith, call .ensures .onward (c .if1 .left) (loop-again c .1), length-take (l .have) (l .input))
 
 pub answer-all-spec : {M : Type 1} → statement M
 answer-all-spec =
