@@ -1,8 +1,11 @@
 -- What the drawn mask gives: octets inside the random octets, elements in R_q, and the ciphertext of the definitions.
 --
 --   mask-within      the octets of the mask are random octets
+--   MaskDrawn        the mask stands in the first parts of the work words; start is where the noise begins in the random octets
 --   mask-told        what a complete run tells;  mask-lent: what a run into the first parts leaves there
---   drawn-ready      a drawn mask with enough octets left for the noise is all that the elements need
+--   drawn-inputs     the judged key and the drawn mask are what the elements are taken from
+--   noise-lent, noise-enough   the octets that are left for the noise;  small-most: an element of it takes few
+--   used-counted     the octets that are taken, counted from the lengths
 --   ciphertext-same  the ciphertext from the mask in the work words is that from the drawn mask
 -- Assumes nothing.
 use Prim.Native.Nat.{ℕ, _+_, _-_, _*_, _≤_}
@@ -13,14 +16,15 @@ use mathlib.Core.Bool.{true}
 use mathlib.Core.List.{List}
 use lib.Arith.{digits-lt}
 use lib.ListN.{length, getD, take, drop, length-take, length-drop}
-use lib.Seq.{take-at, getD-take}
+use lib.Seq.{take-at, take-all, getD-take}
 use borrow.Rule.Slice.PartMut.{putMid}
 use Rattle.definitions.specs.Parameters.{Parameters, degree, smallBits, qlen, monomialCount, smallLength}
-use Rattle.definitions.specs.Monomials.{polynomialOf}
+use Rattle.definitions.specs.Monomials.{Polynomial, polynomialOf}
 use Rattle.definitions.specs.Draws.{Drawn, candidates, draws}
-use Rattle.definitions.specs.Calls.{smallOf, decodedElements, polynomialFrom, octetsFrom, maskDraws, noiseOf, encryptedWith, maskLength, encryptUsed}
-use Rattle.definitions.proofs.Parameters.{Accepted}
-use Rattle.definitions.proofs.Octets.{getD-decoded, octetsFrom-cong}
+use Rattle.definitions.specs.Calls.{smallOf, polynomialFrom, octetsFrom, maskDraws, noiseOf, encryptedWith, maskLength, encryptUsed}
+use Rattle.definitions.proofs.Parameters.{Accepted, accepted-set, mask-degree-most}
+use Rattle.definitions.proofs.Calls.{encryptExact-told}
+use Rattle.definitions.proofs.Octets.{octetsFrom-cong}
 use Rattle.definitions.proofs.Draws.{draws-values-below, draws-values-length}
 use Rattle.parameters.proofs.Bounds.{smallBits-within}
 use Rattle.draws.specs.declared.Run.{Run}
@@ -28,15 +32,20 @@ use Rattle.draws.specs.declared.Run.the-variants.{Complete}
 use Rattle.draws.specs.Runs.{said, drawnAnswer}
 use Rattle.draws.proofs.Groups.{drawsAt-within}
 use Rattle.draws.proofs.Runs.{said-complete}
-use Rattle.decoding.specs.Elements.{flat}
-use Rattle.mask_products.specs.Products.{maskIn}
-use Rattle.ciphertext_elements.specs.Elements.{Ready}
-use Rattle.ciphertext_elements.proofs.Ciphertext.{SameUpTo, encryptedWith-cong, ofMask}
-use Rattle.encryption.specs.Steps.{Exact, Judged, MaskDrawn}
+use Rattle.mask_products.specs.Products.{maskIn, KeyAndMask}
+use Rattle.mask_products.proofs.Sums.{count-six}
+use Rattle.ciphertext_elements.specs.Elements.{encryptedFrom}
+use Rattle.ciphertext_elements.proofs.Ciphertext.{SameUpTo, encryptedWith-cong}
+use Rattle.encryption.specs.Steps.{EncryptJudged}
 
-pub mask-within : (p : Parameters) (random : List ℕ) → maskLength p random ≤ length random
+pub record MaskDrawn (p : Parameters) (random : List ℕ) (start : ℕ) (work : List ℕ) : Type 0 where
+  pub enough : maskDraws p random .enough ≡ true
+  pub values : take (monomialCount (p .dr) * p .n) work ≡ maskDraws p random .values
+  pub taken : start ≡ maskLength p random
+
+pub mask-within : {p : Parameters} {random work : List ℕ} {start : ℕ} → MaskDrawn p random start work → start ≤ length random
 unfolding maskLength maskDraws
-mask-within p random = omega (arith, drawsAt-within (p .q) random 0 (monomialCount (p .dr) * p .n) (omega arith))
+mask-within {p} {random} drawn = omega (arith, drawn .taken, drawsAt-within (p .q) random 0 (monomialCount (p .dr) * p .n) (omega arith))
 
 -- a run into the first parts of the work words
 pub mask-lent : (p : Parameters) (random old new : List ℕ) (run : Run) {count : ℕ} → count ≡ monomialCount (p .dr) → count * p .n ≤ length old
@@ -51,52 +60,71 @@ mask-lent p random old new run {count} e room sized told =
     take-at new (drop (count * p .n - 0) (drop 0 old)) (monomialCount (p .dr) * p .n) (sized ∙ words) in
     rw front (told ∙ ap (λ (c : ℕ). drawnAnswer (draws (p .q) c (candidates (p .q) random))) words)
 
-pub mask-told : (p : Parameters) (random words : List ℕ) {run : Run} {groups start : ℕ} {work : List ℕ} → run ≡ Complete groups
-    → said run words ≡ drawnAnswer (maskDraws p random) → take (monomialCount (p .dr) * p .n) work ≡ words → start ≡ qlen (p .q) * groups
-    → MaskDrawn p random start work
+pub mask-told : (p : Parameters) (random work : List ℕ) {run : Run} {groups width : ℕ} → run ≡ Complete groups
+    → said run (take (monomialCount (p .dr) * p .n) work) ≡ drawnAnswer (maskDraws p random) → width ≡ qlen (p .q) → MaskDrawn p random (width * groups) work
 unfolding maskLength
-mask-told p random words {groups = groups} e told w s =
-    let d : maskDraws p random ≡ record { values = words; groups = groups; enough = true } = said-complete (maskDraws p random) words e told in
+mask-told p random work {groups = groups} e told w =
+    let d = said-complete (maskDraws p random) (take (monomialCount (p .dr) * p .n) work) e told in
     record {
       enough = ap (λ (x : Drawn). x .enough) d;
-      values = w ∙ sym (ap (λ (x : Drawn). x .values) d);
-      taken = s ∙ sym (ap (λ (x : Drawn). qlen (p .q) * x .groups) d);
+      values = sym (ap (λ (x : Drawn). x .values) d);
+      taken = ap (λ (x : ℕ). x * groups) w ∙ sym (ap (λ (x : Drawn). qlen (p .q) * x .groups) d);
     }
 
--- ---- the key and the mask, as the definitions have them
-pub key-same : (p : Parameters) (public : List ℕ) → SameUpTo (monomialCount (p .dx)) (p .n) (flat (p .n) (qlen (p .q)) public) (polynomialFrom p (p .dx) public)
-unfolding polynomialFrom polynomialOf decodedElements
-key-same p public i l k b = sym (getD-decoded (qlen (p .q)) (monomialCount (p .dx) * p .n) public (digits-lt l b))
-
-pub mask-same : (p : Parameters) (work values : List ℕ) → take (monomialCount (p .dr) * p .n) work ≡ values
-    → SameUpTo (monomialCount (p .dr)) (p .n) (maskIn (p .n) work) (polynomialOf (p .n) values)
+-- the mask in the work words is the drawn one
+mask-same : (p : Parameters) (work values : List ℕ) → p .dr ≤ 2 → take (monomialCount (p .dr) * p .n) work ≡ values
+    → SameUpTo (monomialCount (p .dr)) (p .n) (maskIn p work) (polynomialOf (p .n) values)
 unfolding polynomialOf
-mask-same p work values e j l k b =
-    sym (getD-take (monomialCount (p .dr) * p .n) work (j * p .n + k) 0 (digits-lt l b)) ∙ ap (λ (w : List ℕ). getD w (j * p .n + k) 0) e
+mask-same p work values low e j l k b =
+    getD-take (6 * p .n) work (j * p .n + k) 0 (digits-lt (omega (arith, count-six (p .dr) low)) b)
+    ∙ sym (getD-take (monomialCount (p .dr) * p .n) work (j * p .n + k) 0 (digits-lt l b))
+    ∙ ap (λ (w : List ℕ). getD w (j * p .n + k) 0) e
 
-pub drawn-ready : {p : Parameters} {public message random ciphertext work : List ℕ} {start : ℕ} → Exact p public message ciphertext work
-    → Judged p public message → MaskDrawn p random start work → start + monomialCount (degree p) * smallLength p ≤ length random
-    → Ready p public random start work
-unfolding maskDraws polynomialOf
-drawn-ready {p} {random = random} {work = work} exact judged drawn room =
-    let run = draws (p .q) (monomialCount (p .dr) * p .n) (candidates (p .q) random) in
-    record {
-      set = exact .set;
-      public-exact = exact .public-exact;
-      fits = judged .fits;
-      work-exact = exact .work-exact;
-      mask = λ j l k b.
-          rw (mask-same p work (run .values) (drawn .values) j l k b)
-          (draws-values-below (p .q) (monomialCount (p .dr) * p .n) (candidates (p .q) random) (j * p .n + k)
-          (rw (draws-values-length (p .q) (monomialCount (p .dr) * p .n) (candidates (p .q) random) (drawn .enough)) (digits-lt l b)));
-      noise = room;
-    }
+module _ {p : Parameters} {public message random ciphertext old work : List ℕ} {start : ℕ} (judged : EncryptJudged p public message ciphertext old)
+    (drawn : MaskDrawn p random start work)
+  where
+    set : Accepted p
+    set = accepted-set p (judged .set)
 
--- the octets that encryption takes, counted from the lengths
-pub used-counted : {p : Parameters} {random work : List ℕ} {start count small : ℕ} → MaskDrawn p random start work
-    → count ≡ monomialCount (degree p) → small ≡ smallLength p → start + count * small ≡ encryptUsed p random
-unfolding encryptUsed
-used-counted {p} drawn e f = rw (e, f) (ap (λ (x : ℕ). x + monomialCount (degree p) * smallLength p) (drawn .taken))
+    pub drawn-inputs : length work ≡ length old → KeyAndMask p public work
+    unfolding maskDraws polynomialOf
+    drawn-inputs long =
+        let lengths = encryptExact-told p (judged .exact) in
+        let run = draws (p .q) (monomialCount (p .dr) * p .n) (candidates (p .q) random) in
+        record {
+          set = judged .set;
+          public-exact = lengths .0;
+          fits = judged .fits;
+          work-exact = long ∙ lengths .3;
+          mask = λ j l k b.
+              rw (mask-same p work (run .values) (mask-degree-most p set) (drawn .values) j l k b)
+              (draws-values-below (p .q) (monomialCount (p .dr) * p .n) (candidates (p .q) random) (j * p .n + k)
+              (rw (draws-values-length (p .q) (monomialCount (p .dr) * p .n) (candidates (p .q) random) (drawn .enough)) (digits-lt l b)));
+        }
+
+    -- the octets that encryption takes, counted from the lengths
+    pub used-counted : {count small : ℕ} → count ≡ monomialCount (degree p) → small ≡ smallLength p → start + count * small ≡ encryptUsed p random
+    unfolding encryptUsed
+    used-counted e f = rw (e, f) (ap (λ (x : ℕ). x + monomialCount (degree p) * smallLength p) (drawn .taken))
+
+    -- the ciphertext of the definitions, from the mask in the work words
+    pub ciphertext-same : (noise : List ℕ) → noise ≡ drop start random
+        → encryptedFrom p public message noise work
+        ≡ octetsFrom p (degree p)
+        (encryptedWith p (polynomialFrom p public) (smallOf p message) (polynomialOf (p .n) (maskDraws p random .values)) (noiseOf p (drop (maskLength p random) random)))
+    ciphertext-same noise e =
+        rw (e, ← drawn .taken)
+        (octetsFrom-cong p (degree p) (λ i l k b.
+        encryptedWith-cong p (polynomialFrom p public) (smallOf p message) (noiseOf p (drop start random)) (mask-same p work _ (mask-degree-most p set) (drawn .values)) i k))
+
+-- the octets that are left for the noise
+pub noise-lent : (random : List ℕ) {start : ℕ} → start ≤ length random → take (length random - start) (drop start random) ≡ drop start random
+noise-lent random {start} l = take-all (length random - start) (drop start random) (omega (arith, length-drop start random))
+
+pub noise-enough : (p : Parameters) (random : List ℕ) (start : ℕ) {count small : ℕ} → count ≡ monomialCount (degree p) → small ≡ smallLength p
+    → start + count * small ≤ length random → monomialCount (degree p) * smallLength p ≤ length (take (length random - start) (drop start random))
+noise-enough p random start {count} {small} e f l =
+    rw (← e, ← f, noise-lent random {start = start} (omega arith)) (omega (arith, length-drop start random))
 
 -- an element of the noise takes few octets
 pub small-most : (p : Parameters) → Accepted p → smallLength p ≤ 4096
@@ -104,14 +132,3 @@ unfolding smallLength
 small-most p a =
     let h : p .n * smallBits (p .l) ≤ 4096 * 4 = mul-le-mul (a .ring-most) (smallBits-within (p .l) .most) in
     omega arith
-
--- the ciphertext of the definitions, from the mask in the work words
-pub ciphertext-same : (p : Parameters) (public message random : List ℕ) {start : ℕ} (work values : List ℕ)
-    → take (monomialCount (p .dr) * p .n) work ≡ values → start ≡ maskLength p random
-    → octetsFrom p (degree p) (ofMask p public message random start work)
-    ≡ octetsFrom p (degree p)
-    (encryptedWith p (polynomialFrom p (p .dx) public) (smallOf p message) (polynomialOf (p .n) values) (noiseOf p (drop (maskLength p random) random)))
-ciphertext-same p public message random {start} work values e s =
-    rw (← s)
-    (octetsFrom-cong p (degree p) (λ i l k b.
-    encryptedWith-cong p (smallOf p message) (noiseOf p (drop start random)) (key-same p public) (mask-same p work values e) i k))

@@ -1,56 +1,34 @@
 // Encryption (01, "Draws from lent random octets": sealing): c = m + X × r + ℓ × e, over R_q.
 //
-// It refuses an unfit set (1 to 5) and a length that is not the exact one (6), and then touches nothing; a message with a bit set past
-// mlen (7), a key's coefficient that is not below q (8) and random octets that end too early (9), and then leaves the outputs as they
-// were and the work words zero. The mask r is drawn first, into the first parts of the work words, and the octets left for the noise e
-// are counted, so the ciphertext is written only where they are enough. The contract cites encryptExit.
+// It takes a set that its constructor accepted. It refuses a length that is not the exact one (6), and then touches nothing; a message with
+// a bit set past mlen (7), a key's coefficient that is not below q (8) and random octets that end too early (9), and then leaves the outputs
+// as they were and the work words zero. The mask r is drawn first, into the first parts of the work words, and the octets left for the
+// noise e are counted, so the ciphertext is written only where they are enough. The contract is the definitions' Encrypts.
 ghost use mathlib.Core.Path.{_≡_};
 ghost use Prim.Native.Nat.{_*_};
 ghost use lib.ListN.{length, take};
 ghost use Rattle.definitions.specs.Parameters.{monomialCount, workLength};
-ghost use Rattle.definitions.specs.Calls.{maskDraws, EncryptExit, encryptExit};
+ghost use Rattle.definitions.specs.Calls.{maskDraws};
+ghost use Rattle.definitions.specs.Contracts.{before, after, Encrypts};
 ghost use Rattle.definitions.specs.Demand3.{AcceptedSet};
 ghost use Rattle.parameters.specs.Answers.{setFrom};
 ghost use Rattle.draws.specs.Runs.{said, drawnAnswer};
-ghost use Rattle.encryption.specs.Steps.{Exact, Judged, MaskDrawn};
+ghost use Rattle.encryption.specs.Steps.{EncryptJudged};
 use draws::Run;
 use parameters::Parameters;
 use parameters::refusals;
 
-// With the mask drawn: the octets left for the noise are counted before anything is written.
-fn encrypt_drawn(
-    p: Parameters,
-    public: &[u8],
-    message: &[u8],
-    random: &[u8],
-    start: usize,
-    ciphertext: &mut [u8],
-    work: &mut [u32],
-    used: &mut u64,
-) -> u32
-    requires { ⌜ Exact (setFrom p) (now public) (now message) (now ciphertext) (now work) × Judged (setFrom p) (now public) (now message) × MaskDrawn (setFrom p) (now random) start (now work) ⌝ }
-    ensures { λ r. ⌜ _≡_ {A = EncryptExit} (record { refusal = r; ciphertext = now (ciphertext .exit); used = now (used .exit); work = now (work .exit) }) (encryptExit (setFrom p) (now (public .entry)) (now (message .entry)) (now (random .entry)) (now (ciphertext .entry)) (now (used .entry)) (now (work .entry))) ⌝ }
-{
-    let end = start + lengths::monomial_count(p.dx + p.dr) * lengths::small_length(p);
-    if random.len() < end {
-        return ring::cleared(work, refusals::EXHAUSTED);
-    }
-    ciphertext_elements::write_elements(p, public, message, random, start, ciphertext, work);
-    *used = end as u64;
-    ring::cleared(work, 0)
-}
-
 // The mask, into the first parts of the work words.
 fn draw_mask(p: Parameters, random: &[u8], work: &mut [u32]) -> Run
     requires { ⌜ AcceptedSet (setFrom p) × (length (now work) ≡ workLength (setFrom p)) ⌝ }
-    ensures { λ r. ⌜ said r (take (monomialCount (p .dr) * p .n) (now (work .exit))) ≡ drawnAnswer (maskDraws (setFrom p) (now (random .entry))) ⌝ }
+    ensures { λ r. ⌜ said r (take (monomialCount (p .dr) * p .n) (after work)) ≡ drawnAnswer (maskDraws (setFrom p) (before random)) ⌝ }
 {
     let from = 0;
     let end = lengths::monomial_count(p.dr) * (p.n as usize);
     draws::draw_below(random, 0, p.q, &mut work[from..end])
 }
 
-// With the inputs judged: the mask is drawn first.
+// With the inputs judged: the mask is drawn, and the octets left for the noise are counted before anything is written.
 fn encrypt_judged(
     p: Parameters,
     public: &[u8],
@@ -60,36 +38,20 @@ fn encrypt_judged(
     work: &mut [u32],
     used: &mut u64,
 ) -> u32
-    requires { ⌜ Exact (setFrom p) (now public) (now message) (now ciphertext) (now work) × Judged (setFrom p) (now public) (now message) ⌝ }
-    ensures { λ r. ⌜ _≡_ {A = EncryptExit} (record { refusal = r; ciphertext = now (ciphertext .exit); used = now (used .exit); work = now (work .exit) }) (encryptExit (setFrom p) (now (public .entry)) (now (message .entry)) (now (random .entry)) (now (ciphertext .entry)) (now (used .entry)) (now (work .entry))) ⌝ }
+    requires { ⌜ EncryptJudged (setFrom p) (now public) (now message) (now ciphertext) (now work) ⌝ }
+    ensures { λ r. ⌜ Encrypts (setFrom p) public message random ciphertext work used r ⌝ }
 {
     let Run::Complete(groups) = draw_mask(p, random, work) else {
         return ring::cleared(work, refusals::EXHAUSTED);
     };
     let start = lengths::octets_of_coefficient(p.q) * groups;
-    encrypt_drawn(p, public, message, random, start, ciphertext, work, used)
-}
-
-// With the lengths exact: the message and the key are judged.
-fn encrypt_exact(
-    p: Parameters,
-    public: &[u8],
-    message: &[u8],
-    random: &[u8],
-    ciphertext: &mut [u8],
-    work: &mut [u32],
-    used: &mut u64,
-) -> u32
-    requires { ⌜ Exact (setFrom p) (now public) (now message) (now ciphertext) (now work) ⌝ }
-    ensures { λ r. ⌜ _≡_ {A = EncryptExit} (record { refusal = r; ciphertext = now (ciphertext .exit); used = now (used .exit); work = now (work .exit) }) (encryptExit (setFrom p) (now (public .entry)) (now (message .entry)) (now (random .entry)) (now (ciphertext .entry)) (now (used .entry)) (now (work .entry))) ⌝ }
-{
-    if packing::padding(message, p.mlen as usize) != 0 {
-        return ring::cleared(work, refusals::PADDING);
+    let end = start + lengths::monomial_count(p.dx + p.dr) * lengths::small_length(p);
+    if random.len() < end {
+        return ring::cleared(work, refusals::EXHAUSTED);
     }
-    if judging::judge(public, lengths::octets_of_coefficient(p.q), p.q) != 0 {
-        return ring::cleared(work, refusals::COEFFICIENT);
-    }
-    encrypt_judged(p, public, message, random, ciphertext, work, used)
+    ciphertext_elements::write_elements(p, public, message, &random[start..], ciphertext, work);
+    *used = end as u64;
+    ring::cleared(work, 0)
 }
 
 pub fn encrypt(
@@ -101,23 +63,17 @@ pub fn encrypt(
     work: &mut [u32],
     used: &mut u64,
 ) -> u32
-    ensures { λ r. ⌜ _≡_ {A = EncryptExit} (record { refusal = r; ciphertext = now (ciphertext .exit); used = now (used .exit); work = now (work .exit) }) (encryptExit (setFrom p) (now (public .entry)) (now (message .entry)) (now (random .entry)) (now (ciphertext .entry)) (now (used .entry)) (now (work .entry))) ⌝ }
+    requires { ⌜ AcceptedSet (setFrom p) ⌝ }
+    ensures { λ r. ⌜ Encrypts (setFrom p) public message random ciphertext work used r ⌝ }
 {
-    let refused = parameters::refusal(p);
-    if refused != 0 {
-        return refused;
-    }
-    if public.len() != lengths::public_length(p) {
+    if !lengths::encrypt_exact(p, public.len(), message.len(), ciphertext.len(), work.len()) {
         return refusals::LENGTH;
     }
-    if message.len() != lengths::message_length(p) {
-        return refusals::LENGTH;
+    if packing::padding(message, p.mlen as usize) != 0 {
+        return ring::cleared(work, refusals::PADDING);
     }
-    if ciphertext.len() != lengths::ciphertext_length(p) {
-        return refusals::LENGTH;
+    if judging::judge(public, lengths::octets_of_coefficient(p.q), p.q) != 0 {
+        return ring::cleared(work, refusals::COEFFICIENT);
     }
-    if work.len() != lengths::work_length(p) {
-        return refusals::LENGTH;
-    }
-    encrypt_exact(p, public, message, random, ciphertext, work, used)
+    encrypt_judged(p, public, message, random, ciphertext, work, used)
 }
