@@ -10,7 +10,7 @@ use Prim.Native.Nat.{ℕ, suc, _+_, _-_, _*_, _^_, _≤_, _<_, zero-le}
 use mathlib.Core.Path.{_≡_, refl, sym, ap, _∙_}
 use mathlib.Core.Bool.{Bool, true, false, not, _&&_, and-comm}
 use mathlib.Core.List.{List, [], _∷_, _++_, append-assoc}
-use native.Mathlib.Nat.{zero-mul, add-sub-cancel-left, le-of-eq, mul-le-mul, pos-of-ne-zero}
+use native.Mathlib.Nat.{zero-mul, add-sub-cancel-left, le-of-eq, mul-le-mul}
 use native.Mathlib.Numerals.{add-one}
 use native.Mathlib.Omega.{arith}
 use lib.Dec.{eqb}
@@ -112,7 +112,7 @@ pub exact-swapped : (a A b B : ℕ) {r : Bool} → r ≡ (eqb a A && eqb b B) �
 exact-swapped a A b B e = and-comm (eqb b B) (eqb a A) ∙ sym e
 
 pub words-refused : (q : ℕ) (words : List ℕ) {r : ℕ} → r ≡ fitNumber q words → (r ≡ 0 → ⊥) → coefficientsFit q words ≡ false
-words-refused q words e z = fitNumber-refused q words (rw (← e) (pos-of-ne-zero z))
+words-refused q words e z = fitNumber-refused q words (λ n. z (e ∙ n))
 
 -- small words, judged by the bits of a coefficient
 module _ (p : Parameters) (set : AcceptedSet p) (words : List ℕ) {b r : ℕ} (bits : b ≡ smallBits (p .l)) (number : r ≡ fitNumber (2 ^ b) words) where

@@ -11,11 +11,11 @@ use lib.ListN.{length, take, drop, length-drop, take-append-drop}
 use lib.Seq.{drop-drop, length-take-le}
 use Rattle.definitions.specs.Sequences.{tabulate}
 use Rattle.definitions.specs.Octets.{numberOf, coefficientAt, decoded}
+use Rattle.definitions.specs.Calls.{polynomialIn}
 use Rattle.definitions.proofs.Sums.{tabulate-cong}
 use Rattle.definitions.proofs.Octets.{decoded-append}
-use Rattle.decoding.specs.Elements.{flat}
 
-pub decoded-drop : (qlen n element : ℕ) (octets : List ℕ) → decoded qlen n (drop (element * n * qlen) octets) ≡ tabulate n (flat n qlen octets element)
+pub decoded-drop : (qlen n element : ℕ) (octets : List ℕ) → decoded qlen n (drop (element * n * qlen) octets) ≡ tabulate n (polynomialIn n qlen octets element)
 unfolding decoded coefficientAt
 decoded-drop qlen n element octets =
     tabulate-cong n (λ k l.
@@ -23,7 +23,7 @@ decoded-drop qlen n element octets =
     ap (λ (s : List ℕ). numberOf (take qlen s)) (drop-drop (k * qlen) (element * n * qlen) octets ∙ ap (λ (j : ℕ). drop j octets) here))
 
 pub decoded-element : (qlen n element : ℕ) (octets : List ℕ) → element * n * qlen + n * qlen ≤ length octets
-    → decoded qlen n (take (n * qlen) (drop (element * n * qlen) octets)) ≡ tabulate n (flat n qlen octets element)
+    → decoded qlen n (take (n * qlen) (drop (element * n * qlen) octets)) ≡ tabulate n (polynomialIn n qlen octets element)
 decoded-element qlen n element octets room =
     let from : List ℕ = drop (element * n * qlen) octets in
     let whole : length (take (n * qlen) from) ≡ n * qlen = length-take-le (n * qlen) from (omega (arith, length-drop (element * n * qlen) octets)) in

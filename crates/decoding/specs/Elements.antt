@@ -1,17 +1,11 @@
--- How the elements of a polynomial stand in octets, one after the other.
+-- What the elements of a polynomial that stand in octets, one after the other, are taken into.
 --
---   flat             the polynomial whose coefficients stand in octets, element after element
 --   Sizes            what a function that takes elements from octets into the eight parts of the work words asks of n, qlen and the words
 -- Assumes nothing.
 use Prim.Native.Nat.{ℕ, _+_, _*_, _≤_, _<_}
 use mathlib.Core.Path.{_≡_}
 use mathlib.Core.List.{List}
 use lib.ListN.{length}
-use Rattle.definitions.specs.Monomials.{Polynomial}
-use Rattle.definitions.specs.Octets.{coefficientAt}
-
-abbrev pub flat : ℕ → ℕ → List ℕ → Polynomial
-flat n qlen octets i k = coefficientAt qlen octets (i * n + k)
 
 pub record Sizes (n qlen : ℕ) (work : List ℕ) : Type 0 where
   pub places : 0 < n

@@ -7,8 +7,9 @@ ghost use Prim.Native.Nat.{ℕ, _+_, _*_, _≤_, _<_};
 ghost use lib.ListN.{length, take, drop};
 ghost use Rattle.definitions.specs.Sequences.{tabulate};
 ghost use Rattle.definitions.specs.Octets.{numberOf, decoded};
+ghost use Rattle.definitions.specs.Calls.{polynomialIn};
 ghost use Rattle.ring.specs.Work.{written};
-ghost use Rattle.decoding.specs.Elements.{Sizes, flat};
+ghost use Rattle.decoding.specs.Elements.{Sizes};
 
 fn wide(octet: u8) -> u32
     ensures { λ r. ⌜ (r ≡ octet) × (r < 256) ⌝ }
@@ -111,7 +112,7 @@ pub fn decode(octets: &[u8], qlen: usize, words: &mut [u32])
 // The element at a place of the octets, into a part of the work words.
 pub fn element(octets: &[u8], element: usize, n: usize, qlen: usize, work: &mut [u32], at: usize)
     requires { ⌜ Sizes n qlen (now work) × (element < 45) × (element * n * qlen + n * qlen ≤ length (now octets)) × (at + n ≤ length (now work)) ⌝ }
-    ensures { λ _. ⌜ now (work .exit) ≡ written at (tabulate n (flat n qlen (now (octets .entry)) element)) (now (work .entry)) ⌝ }
+    ensures { λ _. ⌜ now (work .exit) ≡ written at (tabulate n (polynomialIn n qlen (now (octets .entry)) element)) (now (work .entry)) ⌝ }
 {
     let from = element * n * qlen;
     let end = from + n * qlen;

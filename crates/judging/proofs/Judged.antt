@@ -41,10 +41,6 @@ pub fitNumber-refused : (q : ℕ) (xs : List ℕ) → (fitNumber q xs ≡ 0 → 
 unfolding fitNumber
 fitNumber-refused q xs = number-refused (coefficientsFit q xs)
 
-pub fits-fitNumber : (q : ℕ) (xs : List ℕ) → coefficientsFit q xs ≡ true → fitNumber q xs ≡ 0
-unfolding fitNumber
-fits-fitNumber q xs e = sym (number-zero e)
-
 module _ (p : Parameters) (set : Accepted p) (elements : ℕ) (octets : List ℕ)
     (exact : length octets ≡ elementsLength p elements) {len r : ℕ} (e : len ≡ qlen (p .q))
     (number : r ≡ fitNumber (p .q) (decoded len (length octets / len) octets))

@@ -34,7 +34,14 @@ pub fn load_key(p: Parameters, public: &[u8], i: usize, work: &mut [u32])
     ensures { λ _. ⌜ after work ≡ written (6 * p .n) (tabulate (p .n) (polynomialFrom (setFrom p) (before public) i)) (before work) ⌝ }
 {
     let n = p.n as usize;
-    decoding::element(public, i, n, lengths::octets_of_coefficient(p.q), work, 6 * n);
+    decoding::element(
+        public,
+        i,
+        n,
+        lengths::octets_of_coefficient(p.q),
+        work,
+        6 * n,
+    );
 }
 
 // Part 6 times the mask's j-th element, added to the sum.

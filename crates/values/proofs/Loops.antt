@@ -1,7 +1,7 @@
 -- What the loops of Horner's rule keep: so many elements taken, each of which fits, modulo q.
 --
 --   sizes-kept       sizes go by the length alone;  count-most, in-octets: a place of the list is one of the octets
---   flat-fits        an element that fits is the same modulo q;  decoded-fits: all coefficients fit where every element does
+--   element-fits        an element that fits is the same modulo q;  decoded-fits: all coefficients fit where every element does
 --   placed-written   an element was written;  Added, step-placed: what a step leaves
 --   HornerAt         so many elements taken at a part;  hornerAt-none: none, -next: one more, -ready: what a step asks of the words
 -- Assumes nothing.
@@ -18,12 +18,13 @@ use Rattle.definitions.specs.Sequences.{every, tabulate}
 use Rattle.definitions.specs.Parameters.{monomialCount}
 use Rattle.definitions.specs.Ring.{Element, InRing, conv}
 use Rattle.definitions.specs.Octets.{decoded, coefficientsFit}
+use Rattle.definitions.specs.Calls.{polynomialIn}
 use Rattle.definitions.proofs.Sums.{length-tabulate, getD-tabulate}
 use Rattle.definitions.proofs.Octets.{coefficientsFit-below}
 use Rattle.definitions.proofs.Rows.{monomialCount-mono-le}
 use Rattle.ring.specs.Work.{part, written, productAdded}
 use Rattle.ring.proofs.Work.{part-written, getD-written-before, length-written-tabulate}
-use Rattle.decoding.specs.Elements.{flat, Sizes}
+use Rattle.decoding.specs.Elements.{Sizes}
 use Rattle.judging.proofs.Laws.{coefficientsFit-none, coefficientsFit-append, decoded-more}
 use Rattle.values.specs.Horner.{horner, stepped, rowOf, fitsAt, Placed}
 use Rattle.values.proofs.Horner.{horner-cong, horner-stepped}
@@ -44,18 +45,18 @@ unfolding rowOf
 row-cong n d f t h k l = horner-cong n h (suc t) (λ c v i w. refl) k l
 
 module _ (q n qlen : ℕ) (octets : List ℕ) where
-  pub flat-fits : (i : ℕ) → fitsAt q n qlen octets i ≡ true → (k : ℕ) → k < n → flat n qlen octets i k ≡ flat n qlen octets i k % q
-  flat-fits i e k l =
-      let below : getD (tabulate n (flat n qlen octets i)) k 0 < q =
-      coefficientsFit-below q (tabulate n (flat n qlen octets i)) e k (omega (arith, length-tabulate n (flat n qlen octets i))) in
-      sym (mod-eq-of-lt (rw (getD-tabulate n (flat n qlen octets i) 0 l) at below))
+  pub element-fits : (i : ℕ) → fitsAt q n qlen octets i ≡ true → (k : ℕ) → k < n → polynomialIn n qlen octets i k ≡ polynomialIn n qlen octets i k % q
+  element-fits i e k l =
+      let below : getD (tabulate n (polynomialIn n qlen octets i)) k 0 < q =
+      coefficientsFit-below q (tabulate n (polynomialIn n qlen octets i)) e k (omega (arith, length-tabulate n (polynomialIn n qlen octets i))) in
+      sym (mod-eq-of-lt (rw (getD-tabulate n (polynomialIn n qlen octets i) 0 l) at below))
 
   pub decoded-fits : (count : ℕ) → coefficientsFit q (decoded qlen (count * n) octets) ≡ every count (fitsAt q n qlen octets)
   unfolding every
   decoded-fits zero = unfold decoded tabulate in rw (zero-mul n) (coefficientsFit-none q)
   decoded-fits (suc count) =
       let e : suc count * n ≡ count * n + n = omega arith in
-      rw (e, decoded-more q qlen octets (count * n) n, coefficientsFit-append q (tabulate n (flat n qlen octets count)) (decoded qlen (count * n) octets))
+      rw (e, decoded-more q qlen octets (count * n) n, coefficientsFit-append q (tabulate n (polynomialIn n qlen octets count)) (decoded qlen (count * n) octets))
       (ap (λ (b : Bool). b && fitsAt q n qlen octets count) (decoded-fits count))
 
 pub placed-written : {n at : ℕ} {f : Element} (old : List ℕ) {new : List ℕ} → at + n ≤ length old → new ≡ written at (tabulate n f) old → Placed n at f old new

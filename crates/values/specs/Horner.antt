@@ -18,7 +18,7 @@ use Rattle.definitions.specs.Sequences.{sum, every, tabulate}
 use Rattle.definitions.specs.Ring.{Element, conv}
 use Rattle.definitions.specs.Monomials.{Polynomial}
 use Rattle.definitions.specs.Octets.{coefficientsFit}
-use Rattle.decoding.specs.Elements.{flat}
+use Rattle.definitions.specs.Calls.{polynomialIn}
 use Rattle.ring.specs.Work.{part}
 
 unfoldable pub horner : ℕ → Element → (ℕ → Element) → ℕ → Element
@@ -42,7 +42,7 @@ unfoldable pub nested : ℕ → ℕ → Polynomial → Element → Element → E
 nested n d f ux uy = horner n uy (rowOf n d f ux) (suc d)
 
 abbrev pub fitsAt : ℕ → ℕ → ℕ → List ℕ → ℕ → Bool
-fitsAt q n qlen octets i = coefficientsFit q (tabulate n (flat n qlen octets i))
+fitsAt q n qlen octets i = coefficientsFit q (tabulate n (polynomialIn n qlen octets i))
 
 abbrev pub rowFits : ℕ → (ℕ → Bool) → ℕ → Bool
 rowFits d fits t = every (suc t) (λ s. fits (termPlace d t s))

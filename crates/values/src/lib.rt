@@ -12,8 +12,9 @@ ghost use Rattle.definitions.specs.Parameters.{monomialCount};
 ghost use Rattle.definitions.specs.Ring.{InRing};
 ghost use Rattle.definitions.specs.Monomials.{value};
 ghost use Rattle.definitions.specs.Octets.{decoded};
+ghost use Rattle.definitions.specs.Calls.{polynomialIn};
 ghost use Rattle.ring.specs.Work.{part};
-ghost use Rattle.decoding.specs.Elements.{Sizes, flat};
+ghost use Rattle.decoding.specs.Elements.{Sizes};
 ghost use Rattle.judging.specs.Reading.{coefficientNumber, fitNumber};
 ghost use Rattle.values.specs.Horner.{stepped, rowOf, fitsAt, rowFits, Placed};
 
@@ -29,7 +30,7 @@ fn read_element(
 ) -> u32
     requires { ⌜ Sizes n qlen (now work) × (element < 45) × (element * n * qlen + n * qlen ≤ length (now octets)) × (at + n ≤ length (now work)) ⌝ }
     ensures { λ r. ⌜ r ≡ coefficientNumber (fitsAt q n qlen (now (octets .entry)) element) ⌝ }
-    ensures { λ r. ⌜ (r ≡ 0 → Placed n at (flat n qlen (now (octets .entry)) element) (now (work .entry)) (now (work .exit))) ⌝ }
+    ensures { λ r. ⌜ (r ≡ 0 → Placed n at (polynomialIn n qlen (now (octets .entry)) element) (now (work .entry)) (now (work .exit))) ⌝ }
 {
     let from = element * n * qlen;
     let stop = at + n;
@@ -53,7 +54,7 @@ fn row(octets: &[u8], d: usize, t: usize, n: usize, qlen: usize, q: u32, work: &
     requires { ⌜ Sizes n qlen (now work) × (d ≤ 8) × (t ≤ d) × (length (now octets) ≡ monomialCount d * n * qlen) × (16 ≤ q) × (q < 2147483648) ⌝ }
     requires { ⌜ InRing 16 n (part (now work) 0) ⌝ }
     ensures { λ r. ⌜ r ≡ coefficientNumber (rowFits d (fitsAt q n qlen (now (octets .entry))) t) ⌝ }
-    ensures { λ r. ⌜ (r ≡ 0 → Placed n (3 * n) (λ k. rowOf n d (flat n qlen (now (octets .entry))) (part (now (work .entry)) 0) t k % q) (now (work .entry)) (now (work .exit))) ⌝ }
+    ensures { λ r. ⌜ (r ≡ 0 → Placed n (3 * n) (λ k. rowOf n d (polynomialIn n qlen (now (octets .entry))) (part (now (work .entry)) 0) t k % q) (now (work .entry)) (now (work .exit))) ⌝ }
 {
     let mut first = 0;
     let mut s = 0;
@@ -74,7 +75,7 @@ pub fn evaluate(octets: &[u8], d: usize, n: usize, qlen: usize, q: u32, work: &m
     requires { ⌜ Sizes n qlen (now work) × (d ≤ 8) × (length (now octets) ≡ monomialCount d * n * qlen) × (16 ≤ q) × (q < 2147483648) ⌝ }
     requires { ⌜ InRing 16 n (part (now work) 0) × InRing 16 n (part (now work) n) ⌝ }
     ensures { λ r. ⌜ r ≡ fitNumber q (decoded qlen (monomialCount d * n) (now (octets .entry))) ⌝ }
-    ensures { λ r. ⌜ (r ≡ 0 → (k : ℕ) → k < n → part (now (work .exit)) (2 * n) k ≡ value n d (flat n qlen (now (octets .entry))) (part (now (work .entry)) 0) (part (now (work .entry)) n) k % q) ⌝ }
+    ensures { λ r. ⌜ (r ≡ 0 → (k : ℕ) → k < n → part (now (work .exit)) (2 * n) k ≡ value n d (polynomialIn n qlen (now (octets .entry))) (part (now (work .entry)) 0) (part (now (work .entry)) n) k % q) ⌝ }
 {
     let mut t = 0;
     while t <= d {

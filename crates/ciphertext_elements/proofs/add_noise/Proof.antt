@@ -40,9 +40,10 @@ part-draw-noise-end c = omega (arith, room (start c))
 
 draw-noise-requires : tie.Need-draw-noise-requires
 draw-noise-requires c κs =
-    let s = start (c .before) in
-    (subst (λ (x : ℕ). s .args .m * c .before .small-length .result + x ≤ length (s .args .noise .now)) (c .before .small-length .ensures) (inside (c .before)),
-    length-borrowed (6 * s .args .p .n) (s .args .p .n) (s .args .work .now) (omega (arith, room s)))
+    let s = start (c .before) in (
+      subst (λ (x : ℕ). s .args .m * c .before .small-length .result + x ≤ length (s .args .noise .now)) (c .before .small-length .ensures) (inside (c .before)),
+      length-borrowed (6 * s .args .p .n) (s .args .p .n) (s .args .work .now) (omega (arith, room s)),
+    )
 
 -- the noise element in part 6
 abbrev noisy : tie.After-small-length → List ℕ

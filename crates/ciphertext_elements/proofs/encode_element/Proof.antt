@@ -31,9 +31,10 @@ inside c = let s = start c in ciphertext-room (setFrom (s .args .p)) (s .args .c
 
 width-most : (c : tie.After-octets-of-coefficient) → (1 ≤ c .octets-of-coefficient .result) × (c .octets-of-coefficient .result ≤ 4)
 width-most c =
-    let set = accepted-set (setFrom (start c .args .p)) (start c .pre .0 .0) in
-    (omega (arith, c .octets-of-coefficient .ensures, qlen-least _ (modulus-positive _ set) (modulus-word _ set)),
-    omega (arith, c .octets-of-coefficient .ensures, qlen-most (start c .args .p .q)))
+    let set = accepted-set (setFrom (start c .args .p)) (start c .pre .0 .0) in (
+      omega (arith, c .octets-of-coefficient .ensures, qlen-least _ (modulus-positive _ set) (modulus-word _ set)),
+      omega (arith, c .octets-of-coefficient .ensures, qlen-most (start c .args .p .q)),
+    )
 
 mul-from : tie.Need-mul-from
 mul-from c =

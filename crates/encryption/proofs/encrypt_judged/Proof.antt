@@ -107,12 +107,13 @@ write-elements-requires c κs =
     let t = c .before .before .before in
     let k = known (t .before) in
     let s = first k in
-    let p = setFrom (s .args .p) in
-    (record {
-      inputs = drawn-inputs (s .pre) (mask k) (run k .draw-mask .kept .1 .1 .0);
-      room = noise-enough p (s .args .random .now) (noiseFrom k) (t .before .before .monomial-count .ensures) (t .before .small-length .ensures) (t .if1 .left);
-    },
-    encryptExact-told p (s .pre .exact) .2)
+    let p = setFrom (s .args .p) in (
+      record {
+        inputs = drawn-inputs (s .pre) (mask k) (run k .draw-mask .kept .1 .1 .0);
+        room = noise-enough p (s .args .random .now) (noiseFrom k) (t .before .before .monomial-count .ensures) (t .before .small-length .ensures) (t .if1 .left);
+      },
+      encryptExact-told p (s .pre .exact) .2,
+    )
 
 returns-3 : tie.Need-returns-3
 unfolding encryptExit encryptAnswer
@@ -124,9 +125,10 @@ returns-3 c =
     let a = s .args in
     let p = setFrom (a .p) in
     let within = mask-within (mask k) in
-    leaves-accepted (a .ciphertext .now) (a .used .now) (a .work .now) _
-    (c .before .before .cleared3 .ensures .0,
-    c .before .before .cleared3 .ensures .1 ∙ ap (λ (n : ℕ). replicate n 0) (call .write-elements .kept .1 .1 .1 .1 .1 .0 ∙ run k .draw-mask .kept .1 .1 .0))
+    leaves-accepted (a .ciphertext .now) (a .used .now) (a .work .now) _ (
+      c .before .before .cleared3 .ensures .0,
+      c .before .before .cleared3 .ensures .1 ∙ ap (λ (n : ℕ). replicate n 0) (call .write-elements .kept .1 .1 .1 .1 .1 .0 ∙ run k .draw-mask .kept .1 .1 .0),
+    )
     (call .write-elements .ensures ∙ ciphertext-same (s .pre) (mask k) _ (noise-lent (a .random .now) within))
     (counted (t .before))
     ∙ exit-accepted (λ x. encryptLeaves x (a .ciphertext .now) (a .used .now) (a .work .now)) p _ _ _ (s .pre .set) (s .pre .exact)

@@ -3,7 +3,7 @@
 use Prim.Native.Nat.{ℕ, _+_, _-_, _*_, _%_, _≤_, _<_}
 use native.Mathlib.Nat.{mod-lt, mul-le-mul, mul-le-mul-right}
 use native.Mathlib.Omega.{arith}
-use mathlib.Core.Path.{_≡_, ap, _∙_}
+use mathlib.Core.Path.{_≡_, sym, ap, _∙_}
 use lib.ListN.{length}
 use borrow.Rule.Slice.PartMut.{mid-len}
 use borrow.Author.Needs.{needs}
@@ -11,7 +11,7 @@ use Rattle.definitions.specs.Monomials.{value}
 use Rattle.definitions.specs.Calls.{polynomialIn}
 use Rattle.definitions.proofs.Monomials.{monomialCount-pos}
 use Rattle.ring.specs.Work.{part}
-use Rattle.judging.proofs.Judged.{fits-fitNumber}
+use Rattle.judging.proofs.Laws.{fitNumber-zero}
 use Rattle.key_generation.proofs.Constant.{constant-placed}
 use Rattle.key_generation.proofs.write_constant.Statement.{statement}
 use Rattle.key_generation.proofs.write_constant.Tie as tie
@@ -32,7 +32,7 @@ found : (c : tie.After-evaluate) →
     let a = start c .args in
     (k : ℕ) → k < a .n → part (c .evaluate .last .1 .1 .1 .1 .1 .0) (2 * a .n) k
     ≡ value (a .n) (a .d) (polynomialIn (a .n) (a .qlen) (a .public .now)) (part (a .work .now) 0) (part (a .work .now) (a .n)) k % a .q
-found c = c .evaluate .ensures .1 (c .evaluate .ensures .0 ∙ fits-fitNumber _ _ (start c .pre .1 .0))
+found c = c .evaluate .ensures .1 (c .evaluate .ensures .0 ∙ sym (fitNumber-zero _ _ (start c .pre .1 .0)))
 
 -- the third part lies inside the work words
 words : (c : tie.After-evaluate) → 2 * start c .args .n + start c .args .n ≤ length (c .evaluate .last .1 .1 .1 .1 .1 .0)

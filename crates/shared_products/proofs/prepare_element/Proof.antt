@@ -107,10 +107,11 @@ returns c =
     let m = multiplied (c .before .before .before) in
     let call = loaded (copied m) in
     let s = start (cleared call) in
-    let p = setFrom (s .args .p) in
-    (squared m .mask,
-    element-prepared p (polynomialFrom p (s .args .public .now)) (maskIn p (s .args .work .now)) (s .args .i) (s .args .list .now) (cleared call .before .before .diagonal-at .ensures)
-    (copied m .copy-from .ensures) (filled call .inside) (c .before .before .copy-from2 .ensures) (squared m .sum))
+    let p = setFrom (s .args .p) in (
+      squared m .mask,
+      element-prepared p (polynomialFrom p (s .args .public .now)) (maskIn p (s .args .work .now)) (s .args .i) (s .args .list .now) (cleared call .before .before .diagonal-at .ensures)
+          (copied m .copy-from .ensures) (filled call .inside) (c .before .before .copy-from2 .ensures) (squared m .sum),
+    )
 
 pub prepare-element-spec : {M : Type 1} → statement M
 prepare-element-spec =

@@ -7,8 +7,8 @@ use borrow.Author.Needs.{needs}
 use Rattle.definitions.specs.Parameters.{monomialCount}
 use Rattle.definitions.specs.Ring.{InRing}
 use Rattle.definitions.specs.Octets.{decoded, coefficientsFit}
+use Rattle.definitions.specs.Calls.{polynomialIn}
 use Rattle.ring.specs.Work.{part}
-use Rattle.decoding.specs.Elements.{flat}
 use Rattle.judging.specs.Reading.{fitNumber}
 use Rattle.judging.proofs.Judged.{number-zero, number-fits, number-same}
 use Rattle.values.specs.Horner.{rowOf, nested, fitsAt, rowFits, Placed}
@@ -19,7 +19,7 @@ use Rattle.values.proofs.evaluate.Tie as tie
 
 abbrev Inv-loop : tie.InvT-loop
 Inv-loop octets d n qlen q work₀ t₀ work t =
-    (t ≤ d + 1) × HornerAt n q (2 * n) n (rowOf n d (flat n qlen octets) (part work₀ 0)) (rowFits d (fitsAt q n qlen octets)) work₀ t work
+    (t ≤ d + 1) × HornerAt n q (2 * n) n (rowOf n d (polynomialIn n qlen octets) (part work₀ 0)) (rowFits d (fitsAt q n qlen octets)) work₀ t work
 
 abbrev μ-loop : tie.MeasureT-loop
 μ-loop octets d n qlen q work₀ t₀ work t = d + 1 - t
@@ -66,7 +66,7 @@ returns c =
 -- the row is taken
 taken : (c : tie.Else1 Inv-loop μ-loop) → let a = start (turn c) .args in
     let l = turn c .before .loop in
-    let row = rowOf (a .n) (a .d) (flat (a .n) (a .qlen) (a .octets .now)) (part (l .work) 0) (l .t) in
+    let row = rowOf (a .n) (a .d) (polynomialIn (a .n) (a .qlen) (a .octets .now)) (part (l .work) 0) (l .t) in
     Placed (a .n) (3 * a .n) (λ k. row k % a .q) (l .work) (c .before .before .before .row .last .1 .1 .1 .1 .1 .1 .0)
 taken c = c .before .before .before .row .ensures .1 (c .if1 .left)
 
@@ -92,7 +92,7 @@ loop-again c =
     let r = l .before .loop in
     let zero = sym (passed c .before .before .before .row .ensures .0) ∙ passed c .if1 .left in
     let fit = number-fits (rowFits (a .d) (fitsAt (a .q) (a .n) (a .qlen) (a .octets .now)) (r .t)) zero in
-    let f = flat (a .n) (a .qlen) (a .octets .now) in (
+    let f = polynomialIn (a .n) (a .qlen) (a .octets .now) in (
       omega (arith, l .loop-test .taken),
       hornerAt-next (omega arith, omega arith) (r .inv .1) (taken (passed c)) fit
           (λ k m. ap (λ (x : ℕ). x % a .q) (row-cong (a .n) (a .d) f (r .t) (same-x l) k m)) (c .before .before .step .ensures),
@@ -105,7 +105,7 @@ returns-2 c =
     let l = c .before .loop in
     let all : l .t ≡ suc (a .d) = omega (arith, l .inv .0, c .loop-test .left) in
     let fit = rows-all (a .d) (fitsAt (a .q) (a .n) (a .qlen) (a .octets .now)) (rw all at (l .inv .1 .fit)) in
-    let f = flat (a .n) (a .qlen) (a .octets .now) in (
+    let f = polynomialIn (a .n) (a .qlen) (a .octets .now) in (
       number-zero (decoded-fits (a .q) (a .n) (a .qlen) (a .octets .now) (monomialCount (a .d)) ∙ fit),
       λ z k m. hornerAt-all all (l .inv .1) .placed k m
           ∙ ap (λ (x : ℕ). x % a .q) (nested-value (a .n) (a .d) f (part (a .work .now) 0) (part (a .work .now) (a .n)) m),

@@ -10,11 +10,11 @@ use lib.Seq.{take-all}
 use borrow.Author.Needs.{needs}
 use Rattle.definitions.specs.Sequences.{tabulate}
 use Rattle.definitions.specs.Octets.{decoded}
+use Rattle.definitions.specs.Calls.{polynomialIn}
 use Rattle.definitions.proofs.Sums.{length-tabulate}
 use Rattle.definitions.proofs.Filling.{length-borrowed}
 use Rattle.ring.specs.Work.{written}
 use Rattle.ring.proofs.Lent.{putMid-written}
-use Rattle.decoding.specs.Elements.{flat}
 use Rattle.decoding.proofs.Elements.{decoded-drop}
 use Rattle.judging.specs.Reading.{fitNumber}
 use Rattle.values.proofs.Loops.{placed-written}
@@ -51,7 +51,7 @@ returns c =
     let s = c .before .before .before .before .before .before .before in
     let a = s .args in
     let r = c .before .before .read in
-    let element : List ℕ = tabulate (a .n) (flat (a .n) (a .qlen) (a .octets .now) (a .element)) in
+    let element : List ℕ = tabulate (a .n) (polynomialIn (a .n) (a .qlen) (a .octets .now) (a .element)) in
     let coefficients : decoded (a .qlen) _ _ ≡ element =
     ap₂ (decoded (a .qlen)) (lent-words s) (lent-octets s) ∙ decoded-drop (a .qlen) (a .n) (a .element) (a .octets .now) in (
       r .ensures .0 ∙ ap (fitNumber (a .q)) coefficients,

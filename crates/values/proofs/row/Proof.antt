@@ -7,19 +7,19 @@ use mathlib.Core.Bool.{true, false}
 use borrow.Author.Needs.{needs}
 use lib.ListN.{length}
 use Rattle.definitions.specs.Parameters.{monomialCount}
+use Rattle.definitions.specs.Calls.{polynomialIn}
 use Rattle.definitions.proofs.Sums.{every-false}
-use Rattle.decoding.specs.Elements.{flat}
 use Rattle.judging.proofs.Judged.{number-zero, number-fits, number-same}
 use Rattle.values.specs.Horner.{starts, termPlace, rowOf, fitsAt, rowFits, Placed}
 use Rattle.values.proofs.Horner.{starts-zero, starts-suc, place-inside}
-use Rattle.values.proofs.Loops.{sizes-kept, count-most, in-octets, flat-fits, HornerAt, hornerAt-none, hornerAt-ready, hornerAt-next, hornerAt-all}
+use Rattle.values.proofs.Loops.{sizes-kept, count-most, in-octets, element-fits, HornerAt, hornerAt-none, hornerAt-ready, hornerAt-next, hornerAt-all}
 use Rattle.values.proofs.row.Statement.{statement}
 use Rattle.values.proofs.row.Tie as tie
 
 abbrev Inv-loop : tie.InvT-loop
 Inv-loop octets d t n qlen q work₀ first₀ s₀ work first s =
     (s ≤ t + 1) × (first ≡ starts d s)
-    × HornerAt n q (3 * n) 0 (λ i. flat n qlen octets (termPlace d t i)) (λ i. fitsAt q n qlen octets (termPlace d t i)) work₀ s work
+    × HornerAt n q (3 * n) 0 (λ i. polynomialIn n qlen octets (termPlace d t i)) (λ i. fitsAt q n qlen octets (termPlace d t i)) work₀ s work
 
 abbrev μ-loop : tie.MeasureT-loop
 μ-loop octets d t n qlen q work₀ first₀ s₀ work first s = t + 1 - s
@@ -80,7 +80,7 @@ returns c =
 -- the term is read, and fits
 read : (c : tie.Else1 Inv-loop μ-loop) → let a = start (turn c) .args in
     let l = turn c .before .loop in
-    let element = flat (a .n) (a .qlen) (a .octets .now) (l .first + (a .d - a .t)) in
+    let element = polynomialIn (a .n) (a .qlen) (a .octets .now) (l .first + (a .d - a .t)) in
     Placed (a .n) (4 * a .n) element (l .work) (c .before .before .before .read-element .last .1 .1 .1 .1 .1 .0)
 read c = c .before .before .before .read-element .ensures .1 (c .if1 .left)
 
@@ -125,7 +125,7 @@ loop-again c =
       omega (arith, l .loop-test .taken),
       ap (λ (x : ℕ). x + (a .d + 1 - r .s)) (r .inv .1) ∙ sym (starts-suc (a .d) (r .s)),
       hornerAt-next (omega arith, omega arith) (r .inv .2) (read (passed c)) (fitting (passed c))
-          (λ k m. rw (here l) (flat-fits (a .q) (a .n) (a .qlen) (a .octets .now) _ (fitting (passed c)) k m)) (c .before .before .step .ensures),
+          (λ k m. rw (here l) (element-fits (a .q) (a .n) (a .qlen) (a .octets .now) _ (fitting (passed c)) k m)) (c .before .before .step .ensures),
     )
 
 returns-2 : tie.Need-returns-2 Inv-loop μ-loop
