@@ -1,6 +1,6 @@
 -- Why adding coefficient by coefficient adds two ciphertexts: the coefficient of t^k of element i stands at i × n + k in both.
 --
---   Turn             a place, and how many octets a turn reads and writes from there on: turn-one, those of its coefficient; turn-four: four
+--   SumTurn          a place, and how many octets a turn reads and writes from there on: turn-one, those of its coefficient; turn-four: four
 --   addedTo-..       the start of a loop that stores the octets of each sum, a turn, and the end
 --   judged-test      the judge's number, compared with 0, is whether each coefficient fits
 --   exact-summands   ciphertexts of which both fit are summands;  ciphertext-count: their coefficients
@@ -34,18 +34,18 @@ use Rattle.addition.specs.Sums.{bothFit, Summands, AddedTo, coefficientS
 
 -- ---- a turn of a loop
 
-pub record Turn (len count m wide : ℕ) : Type 0 where
+pub record SumTurn (len count m wide : ℕ) : Type 0 where
   pub whole : len ≤ wide
   pub few : wide ≤ 4
   pub inside : m < count
   pub room : m * len + wide ≤ count * len
 
 module _ {q len count : ℕ} {a b : List ℕ} (given : Summands q len count a b) (m : ℕ) where
-  pub turn-one : m < count → Turn len count m len
+  pub turn-one : m < count → SumTurn len count m len
   turn-one l = record { whole = le-refl len; few = given .most; inside = l; room = place-end m len l (le-refl _) }
 
   -- three coefficients more follow
-  pub turn-four : m + 4 ≤ count → Turn len count m 4
+  pub turn-four : m + 4 ≤ count → SumTurn len count m 4
   turn-four h =
       record { whole = given .most; few = le-refl 4; inside = omega arith; room = wide-room m len 4 h (given .least) (le-refl _) }
 
@@ -68,7 +68,7 @@ module _ {q len count : ℕ} {a b : List ℕ} where
   unfolding encoded joined
   addedTo-none e = record { inside = zero-le; exact = e; written = rw (zero-mul len) }
 
-  pub addedTo-step : {m wide x y s : ℕ} {sum r : List ℕ} → Turn len count m wide → AddedTo q len count a b m sum
+  pub addedTo-step : {m wide x y s : ℕ} {sum r : List ℕ} → SumTurn len count m wide → AddedTo q len count a b m sum
       → x ≡ coefficientAt len a m → y ≡ coefficientAt len b m → s ≡ (x + y) % q → r ≡ stored (m * len) wide s sum → length r ≡ length sum
       → AddedTo q len count a b (m + 1) r
   addedTo-step {m} {wide} {x} {y} {s} {sum} turn before ex ey es e kept =

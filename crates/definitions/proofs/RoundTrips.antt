@@ -101,7 +101,7 @@ joined-back there back m k count list exact sized same =
 
 -- ---- an answer of two lengths and one more test
 
-record Passed (p : Parameters) (a A b B : ℕ) (test : Bool) (value out : List ℕ) : Type 0 where
+record TestsPassed (p : Parameters) (a A b B : ℕ) (test : Bool) (value out : List ℕ) : Type 0 where
   pub set : AcceptedSet p
   pub first : a ≡ A
   pub second : b ≡ B
@@ -109,7 +109,7 @@ record Passed (p : Parameters) (a A b B : ℕ) (test : Bool) (value out : List �
   pub gives : value ≡ out
 
 module _ (p : Parameters) (a A b B k : ℕ) (test : Bool) (value out : List ℕ) where
-  accepted-tests : answer (lengthTests p (eqb a A && eqb b B)) (refuse (suc k) (not test) ∷ []) value ≡ accepted out → Passed p a A b B test value out
+  accepted-tests : answer (lengthTests p (eqb a A && eqb b B)) (refuse (suc k) (not test) ∷ []) value ≡ accepted out → TestsPassed p a A b B test value out
   accepted-tests e =
       let told = answer-accepted-only _ _ _ out e in
       let lengths = lengthTests-passed p _ (told .0) in
@@ -122,7 +122,7 @@ module _ (p : Parameters) (a A b B k : ℕ) (test : Bool) (value out : List ℕ)
         gives = told .2;
       }
 
-  tests-accepted : Passed p a A b B test value out → answer (lengthTests p (eqb a A && eqb b B)) (refuse (suc k) (not test) ∷ []) value ≡ accepted out
+  tests-accepted : TestsPassed p a A b B test value out → answer (lengthTests p (eqb a A && eqb b B)) (refuse (suc k) (not test) ∷ []) value ≡ accepted out
   tests-accepted h =
       let later : firstRefusal (refuse (suc k) (not test) ∷ []) ≡ 0 = firstRefusal-last (suc k) (not test) (rw (h .tested)) in
       answer-exact p (h .set) (eqb a A && eqb b B) _ value later ∙ rw (eq-eqb a A (h .first), eq-eqb b B (h .second)) (ap accepted (h .gives))
@@ -132,11 +132,11 @@ module _ (p : Parameters) (a A b B k : ℕ) (test : Bool) (value out : List ℕ)
 module _ (p : Parameters) (elements : ℕ) (octets words : List ℕ) where
   abbrev From : ℕ → Type 0
   From len =
-      Passed p (length octets) (elementsLength p elements) len (elements * p .n) (elementsFit p elements octets) (decodedElements p elements octets) words
+      TestsPassed p (length octets) (elementsLength p elements) len (elements * p .n) (elementsFit p elements octets) (decodedElements p elements octets) words
 
   abbrev To : ℕ → Type 0
   To len =
-      Passed p (length words) (elements * p .n) len (elementsLength p elements) (coefficientsFit (p .q) words) (encoded (qlen (p .q)) words) octets
+      TestsPassed p (length words) (elements * p .n) len (elementsLength p elements) (coefficientsFit (p .q) words) (encoded (qlen (p .q)) words) octets
 
   pub from-to : (len : ℕ) → AllBelow 256 octets → fromOctetsAnswer p elements octets len ≡ accepted words
       → toOctetsAnswer p elements words (length octets) ≡ accepted octets
@@ -186,12 +186,12 @@ module _ (p : Parameters) (elements : ℕ) (octets words : List ℕ) where
 
   abbrev PackedFrom : ℕ → Type 0
   PackedFrom len =
-      Passed p (length octets) (elements * smallLength p) len (elements * p .n) (eachBitsClear p elements octets)
+      TestsPassed p (length octets) (elements * smallLength p) len (elements * p .n) (eachBitsClear p elements octets)
       (joined (tabulate elements unpackedPart)) words
 
   abbrev PackedTo : ℕ → Type 0
   PackedTo len =
-      Passed p (length words) (elements * p .n) len (elements * smallLength p) (coefficientsFit (p .l) words)
+      TestsPassed p (length words) (elements * p .n) len (elements * smallLength p) (coefficientsFit (p .l) words)
       (joined (tabulate elements packedPart)) octets
 
   pub packed-from-to : (len : ℕ) → AllBelow 256 octets → packedFromAnswer p elements octets len ≡ accepted words

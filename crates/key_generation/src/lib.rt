@@ -3,7 +3,7 @@
 //
 // The set is accepted. A length that is not the exact one is refused (6), and nothing is touched; random octets that end before the last
 // draw is complete are refused (9), and the outputs stay as they were and the work words are zero. All that is drawn stands in the work
-// words, u_x and u_y in the first two parts and the terms behind them, before an output is written. The contract cites keygenExit.
+// words, u_x and u_y in the first two parts and the terms behind them, before an output is written. The contract is the definitions' Makes.
 ghost use mathlib.Core.Path.{_≡_};
 ghost use mathlib.Core.Bool.{true};
 ghost use Prim.Native.Nat.{_+_, _*_, _≤_, _<_};

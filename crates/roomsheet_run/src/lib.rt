@@ -5,7 +5,7 @@ use libc::STDIN_FILENO;
 use libc::STDOUT_FILENO;
 ghost use Prim.Native.Nat.{_≤_, _<_};
 ghost use lib.ListN.{length};
-ghost use Rattle.roomsheet_run.specs.Kept.{Kept, ReadSome};
+ghost use Rattle.roomsheet_run.specs.Kept.{KeptLine, ReadSome};
 
 // Where a read of at most `most` octets behind those kept ends.
 fn read_end(len: usize, kept: usize, most: usize) -> usize
@@ -34,7 +34,7 @@ fn read_some(input: &mut [u8], kept: usize, most: usize) -> usize
 fn answer_all(input: &mut [u8], have: usize, output: &mut [u8]) -> usize
     requires { ⌜ have ≤ length (now input) ⌝ }
     requires { ⌜ 33 ≤ length (now output) ⌝ }
-    ensures { λ r. ⌜ Kept (now (input .exit)) r ⌝ }
+    ensures { λ r. ⌜ KeptLine (now (input .exit)) r ⌝ }
 {
     let mut have = have;
     loop {
@@ -54,7 +54,7 @@ fn read_all(input: &mut [u8], most: usize, output: &mut [u8]) -> usize
     requires { ⌜ 82 ≤ length (now input) ⌝ }
     requires { ⌜ 0 < most ⌝ }
     requires { ⌜ 33 ≤ length (now output) ⌝ }
-    ensures { λ r. ⌜ Kept (now (input .exit)) r ⌝ }
+    ensures { λ r. ⌜ KeptLine (now (input .exit)) r ⌝ }
 {
     let mut kept = 0;
     let mut turns = u64::MAX;

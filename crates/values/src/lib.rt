@@ -1,5 +1,5 @@
-// The value of a polynomial in x and y at a secret (01, "Draws from lent random octets": opening; 02, Q-9 and Q-11), which openings, the zero
-// test and a key's constant need.
+// The value of a polynomial in x and y at a secret (01, "Draws from lent random octets": opening), which decryption, the zero test and a key's
+// constant need.
 //
 // The polynomial's octets are lent. Horner's rule, x inside and y outside: a row is the terms of one power of y, taken by falling powers of x, and
 // the rows are taken by falling powers of y. Each term but one costs one product with a small element, and five parts of n words serve every

@@ -5,7 +5,7 @@ use native.Mathlib.Omega.{arith}
 use borrow.Author.Needs.{needs}
 use Rattle.definitions.specs.Octets.{coefficientAt}
 use Rattle.addition.specs.Sums.{AddedTo}
-use Rattle.addition.proofs.Sums.{Turn, turn-four, sum-below, addedTo-none, addedTo-step}
+use Rattle.addition.proofs.Sums.{SumTurn, turn-four, sum-below, addedTo-none, addedTo-step}
 use Rattle.addition.proofs.add_by.Statement.{statement}
 use Rattle.addition.proofs.add_by.Tie as tie
 
@@ -21,7 +21,7 @@ loop-holds c = addedTo-none (c .before .before .before .pre .1)
 abbrev start : tie.In-loop Inv-loop μ-loop → tie.Start Inv-loop μ-loop
 start c = c .before .before .before .before .before
 
-turn : (c : tie.In-loop Inv-loop μ-loop) → Turn (start c .args .qlen) (start c .args .count) (c .before .loop .m) 4
+turn : (c : tie.In-loop Inv-loop μ-loop) → SumTurn (start c .args .qlen) (start c .args .count) (c .before .loop .m) 4
 turn c = turn-four (start c .pre .0) (c .before .loop .m) (omega arith)
 
 sum-requires : tie.Need-sum-requires Inv-loop μ-loop

@@ -5,7 +5,7 @@ use native.Mathlib.Omega.{arith}
 use borrow.Author.Needs.{needs}
 use Rattle.definitions.specs.Octets.{coefficientAt}
 use Rattle.addition.specs.Sums.{AddedTo}
-use Rattle.addition.proofs.Sums.{Turn, turn-one, sum-below, addedTo-step, addedTo-end}
+use Rattle.addition.proofs.Sums.{SumTurn, turn-one, sum-below, addedTo-step, addedTo-end}
 use Rattle.addition.proofs.add_rest.Statement.{statement}
 use Rattle.addition.proofs.add_rest.Tie as tie
 
@@ -18,7 +18,7 @@ abbrev μ-loop : tie.MeasureT-loop
 abbrev start : tie.In-loop Inv-loop μ-loop → tie.Start Inv-loop μ-loop
 start c = c .before .before .before .before .before
 
-turn : (c : tie.In-loop Inv-loop μ-loop) → Turn (start c .args .qlen) (start c .args .count) (c .before .loop .m) (start c .args .qlen)
+turn : (c : tie.In-loop Inv-loop μ-loop) → SumTurn (start c .args .qlen) (start c .args .count) (c .before .loop .m) (start c .args .qlen)
 turn c = turn-one (start c .pre .0) (c .before .loop .m) (c .loop-test .taken)
 
 sum-requires : tie.Need-sum-requires Inv-loop μ-loop

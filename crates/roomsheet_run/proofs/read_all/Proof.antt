@@ -6,13 +6,13 @@ use native.Mathlib.Omega.{arith}
 use lib.ListN.{length}
 use borrow.Author.Needs.{needs}
 use Rattle.roomsheet_parse.specs.Parts.{upTo}
-use Rattle.roomsheet_run.specs.Kept.{Kept}
+use Rattle.roomsheet_run.specs.Kept.{KeptLine}
 use Rattle.roomsheet_run.proofs.read_all.Statement.{statement}
 use Rattle.roomsheet_run.proofs.read_all.Tie as tie
 
 abbrev Inv-loop : tie.InvT-loop
 Inv-loop input₀ most output₀ kept₀ turns₀ input output kept turns =
-    Kept input kept × (33 ≤ length output) × (length input ≡ length input₀) × (length output ≡ length output₀)
+    KeptLine input kept × (33 ≤ length output) × (length input ≡ length input₀) × (length output ≡ length output₀)
 
 abbrev μ-loop : tie.MeasureT-loop
 μ-loop input₀ most output₀ kept₀ turns₀ input output kept turns = turns
