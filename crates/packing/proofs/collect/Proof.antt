@@ -45,6 +45,18 @@ fits c =
     let s = start c in
     lane-fits (s .args .words .now) (s .args .at) (s .args .b) (c .before .loop .j + 1) (s .args .rows) (s .pre .5) (omega arith) (s .pre .2) (s .pre .3)
 
+loop-again : tie.Need-loop-again Inv-loop μ-loop
+loop-again c =
+    let i : tie.In-loop Inv-loop μ-loop = search needs in
+    let at = start i .args .at in
+    let l = i .before .loop in (
+      omega arith,
+      turn i at (at + l .j * 4) (omega arith) refl (l .inv .1),
+      turn i (at + 1) (at + l .j * 4 + 1) (omega arith) (omega arith) (l .inv .2),
+      turn i (at + 2) (at + l .j * 4 + 2) (omega arith) (omega arith) (l .inv .3),
+      turn i (at + 3) (at + l .j * 4 + 3) (omega arith) (omega arith) (l .inv .4),
+    )
+
 add-first : tie.Need-add-first Inv-loop μ-loop
 unfolding lanesIn
 add-first c =
@@ -72,18 +84,6 @@ add-fourth-2 c =
     let i : tie.In-loop Inv-loop μ-loop = search needs in
     let row = start i .args .at + i .before .loop .j * 4 in
     record { fits = rw (turn i (start i .args .at + 3) (row + 3) (omega arith) (omega arith) (i .before .loop .inv .4)) (fits i 3) }
-
-loop-again : tie.Need-loop-again Inv-loop μ-loop
-loop-again c =
-    let i : tie.In-loop Inv-loop μ-loop = search needs in
-    let at = start i .args .at in
-    let l = i .before .loop in (
-      omega arith,
-      turn i at (at + l .j * 4) (omega arith) refl (l .inv .1),
-      turn i (at + 1) (at + l .j * 4 + 1) (omega arith) (omega arith) (l .inv .2),
-      turn i (at + 2) (at + l .j * 4 + 2) (omega arith) (omega arith) (l .inv .3),
-      turn i (at + 3) (at + l .j * 4 + 3) (omega arith) (omega arith) (l .inv .4),
-    )
 
 returns : tie.Need-returns Inv-loop μ-loop
 returns c =
