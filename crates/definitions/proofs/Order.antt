@@ -11,8 +11,8 @@ use Rattle.definitions.specs.Roomsheet.{lineLimits}
 use Rattle.definitions.specs.Order.{upToLength, afterLength, standsIn, numberOfTest, InOrder, RefusalOrder}
 
 by : {A : Type 0} (first later : List Test) (value : A) → standsIn upToLength (map numberOfTest first) ≡ true
-    → standsIn afterLength (map numberOfTest later) ≡ true → InOrder (answer first later value)
-by first later value e f = record { first = first; later = later; value = value; is = refl; first-ordered = e; later-ordered = f }
+    → standsIn afterLength (map numberOfTest later) ≡ true → InOrder (answer first later value) first later
+by first later value e f = record { value = value; is = refl; first-ordered = e; later-ordered = f }
 
 pub refusal-order : RefusalOrder
 unfolding

@@ -8,13 +8,14 @@
 --   polynomialFrom   the polynomial over R_q in some octets
 --   octetsFrom       the octets of a polynomial
 --   decodedElements  the coefficients of so many elements from octets
---   secretBitsClear     whether both halves of a secret have zero in their unused bits
+--   secretBitsClear  whether both halves of a secret have zero in their unused bits
 --   elementsFit      whether each of so many elements' coefficients is below q
 --   lengthTests      the tests up to the length test
 --   keysExact        whether both keys and the work words have their exact lengths;  encryptExact, addExact, decryptExact: the buffers of each
 --   keyDraws         the elements drawn for a key;  keyConstant, keyPairOf: its constant, and the octets of both keys
 --   maskDraws        the elements drawn for r;  noiseOf: those of e;  encryptedWith: m + X × r + ℓ × e
 --   decryptedValue   w;  decryptedElement: w modulo ℓ;  tailClear: the tail test;  messageOf: the octets of a message
+--   ..Tests          the tests after the length test, in the order of Order.antt
 --   ..Answer         keygenAnswer (01: key making), isZeroAnswer (zero test), encryptAnswer (sealing), addAnswer (adding),
 --                    decryptAnswer (opening): the answer, from the octets given and the lengths of the buffers lent
 --   ..Leaves         what the caller has at exit: the number, every output and the work words, from an answer and what they held before
@@ -112,11 +113,14 @@ keyPairOf p ux uy others =
       used = secretLength p + qlen (p .q) * others .groups;
     }
 
+abbrev pub keygenTests : Parameters → List ℕ → List Test
+keygenTests p random = refuse 9 (ltb (length random) (secretLength p) || not (keyDraws p random .enough)) ∷ []
+
 unfoldable pub keygenAnswer : Parameters → List ℕ → ℕ → ℕ → ℕ → Answer KeyPair
 keygenAnswer p random secretLen publicLen workLen =
     answer
     (lengthTests p (keysExact p secretLen publicLen workLen))
-    (refuse 9 (ltb (length random) (secretLength p) || not (keyDraws p random .enough)) ∷ [])
+    (keygenTests p random)
     (keyPairOf p (secretDrawn p random) (secretDrawn p (drop (smallLength p) random)) (keyDraws p random))
 
 -- ---- zero test
@@ -124,11 +128,15 @@ keygenAnswer p random secretLen publicLen workLen =
 unfoldable pub isZeroAt : Parameters → Polynomial → Element → Element → Bool
 isZeroAt p key ux uy = every (p .n) (λ k. eqb (modulo (p .q) (value (p .n) (p .dx) key ux uy) k) 0)
 
+abbrev pub isZeroTests : Parameters → List ℕ → List ℕ → List Test
+isZeroTests p secret public =
+    refuse 7 (not (secretBitsClear p secret)) ∷ refuse 8 (not (elementsFit p (monomialCount (p .dx)) public)) ∷ []
+
 unfoldable pub isZeroAnswer : Parameters → List ℕ → List ℕ → ℕ → Answer Bool
 isZeroAnswer p secret public workLen =
     answer
     (lengthTests p (keysExact p (length secret) (length public) workLen))
-    (refuse 7 (not (secretBitsClear p secret)) ∷ refuse 8 (not (elementsFit p (monomialCount (p .dx)) public)) ∷ [])
+    (isZeroTests p secret public)
     (isZeroAt p (polynomialFrom p public) (secretX p secret) (secretY p secret))
 
 -- ---- encryption (01: sealing)
@@ -157,14 +165,18 @@ maskLength p random = qlen (p .q) * maskDraws p random .groups
 unfoldable pub encryptUsed : Parameters → List ℕ → ℕ
 encryptUsed p random = maskLength p random + monomialCount (degree p) * smallLength p
 
+abbrev pub encryptTests : Parameters → List ℕ → List ℕ → List ℕ → List Test
+encryptTests p public message random =
+    refuse 7 (not (paddingClear (p .mlen) message))
+    ∷ refuse 8 (not (elementsFit p (monomialCount (p .dx)) public))
+    ∷ refuse 9 (not (maskDraws p random .enough) || ltb (length random) (encryptUsed p random))
+    ∷ []
+
 unfoldable pub encryptAnswer : Parameters → List ℕ → List ℕ → List ℕ → ℕ → ℕ → Answer Encrypted
 encryptAnswer p public message random ciphertextLen workLen =
     answer
     (lengthTests p (encryptExact p (length public) (length message) ciphertextLen workLen))
-    (refuse 7 (not (paddingClear (p .mlen) message))
-    ∷ refuse 8 (not (elementsFit p (monomialCount (p .dx)) public))
-    ∷ refuse 9 (not (maskDraws p random .enough) || ltb (length random) (encryptUsed p random))
-    ∷ [])
+    (encryptTests p public message random)
     (record {
       ciphertext =
           octetsFrom p (degree p)
@@ -178,11 +190,14 @@ encryptAnswer p public message random ciphertextLen workLen =
 unfoldable pub sumModulo : Parameters → Polynomial → Polynomial → Polynomial
 sumModulo p a b i = modulo (p .q) (sumOf a b i)
 
+abbrev pub addTests : Parameters → List ℕ → List ℕ → List Test
+addTests p a b = refuse 8 (not (elementsFit p (monomialCount (degree p)) a && elementsFit p (monomialCount (degree p)) b)) ∷ []
+
 unfoldable pub addAnswer : Parameters → List ℕ → List ℕ → ℕ → Answer (List ℕ)
 addAnswer p a b sumLen =
     answer
     (lengthTests p (addExact p (length a) (length b) sumLen))
-    (refuse 8 (not (elementsFit p (monomialCount (degree p)) a && elementsFit p (monomialCount (degree p)) b)) ∷ [])
+    (addTests p a b)
     (octetsFrom p (degree p) (sumModulo p (polynomialFrom p a) (polynomialFrom p b)))
 
 -- ---- decryption (01: opening)
@@ -206,14 +221,18 @@ unfoldable pub decryptedFrom : Parameters → List ℕ → List ℕ → Element
 decryptedFrom p secret ciphertext =
     decryptedElement p (polynomialFrom p ciphertext) (secretX p secret) (secretY p secret)
 
+abbrev pub decryptTests : Parameters → List ℕ → List ℕ → List Test
+decryptTests p secret ciphertext =
+    refuse 7 (not (secretBitsClear p secret))
+    ∷ refuse 8 (not (elementsFit p (monomialCount (degree p)) ciphertext))
+    ∷ refuse 10 (not (tailClear p (decryptedFrom p secret ciphertext)))
+    ∷ []
+
 unfoldable pub decryptAnswer : Parameters → List ℕ → List ℕ → ℕ → ℕ → Answer (List ℕ)
 decryptAnswer p secret ciphertext messageLen workLen =
     answer
     (lengthTests p (decryptExact p (length secret) (length ciphertext) messageLen workLen))
-    (refuse 7 (not (secretBitsClear p secret))
-    ∷ refuse 8 (not (elementsFit p (monomialCount (degree p)) ciphertext))
-    ∷ refuse 10 (not (tailClear p (decryptedFrom p secret ciphertext)))
-    ∷ [])
+    (decryptTests p secret ciphertext)
     (messageOf p (decryptedFrom p secret ciphertext))
 
 -- ---- what the caller has at exit: the number, every output and the work words, from the answer and what was there before

@@ -4,6 +4,7 @@
 --   chunk            the i-th of parts of one length that stand end to end
 --   packedFromAnswer so many packed small elements from octets, each with its own unused bits: 1 for a small element, 2 for a secret key;
 --                    packedToAnswer: back
+--   ..Tests          the tests after the length test of each
 --   conversionLeaves the number and the output at exit, from an answer and what the output held before
 --   ..Exit           the same from what the call was lent: fromOctetsExit, toOctetsExit, packedFromExit, packedToExit
 -- Assumes nothing.
@@ -13,23 +14,29 @@ use mathlib.Core.List.{List, [], _∷_}
 use lib.Dec.{eqb}
 use lib.ListN.{length, take, drop}
 use Rattle.definitions.specs.Sequences.{every, tabulate, joined}
-use Rattle.definitions.specs.Refusals.{refuse, Answer, answer, number, output}
+use Rattle.definitions.specs.Refusals.{Test, refuse, Answer, answer, number, output}
 use Rattle.definitions.specs.Parameters.{Parameters, smallBits, qlen, smallLength, elementsLength}
 use Rattle.definitions.specs.Octets.{encoded, coefficientsFit, unpacked, packed, paddingClear}
 use Rattle.definitions.specs.Calls.{lengthTests, elementsFit, decodedElements}
+
+abbrev pub fromOctetsTests : Parameters → ℕ → List ℕ → List Test
+fromOctetsTests p elements octets = refuse 8 (not (elementsFit p elements octets)) ∷ []
 
 unfoldable pub fromOctetsAnswer : Parameters → ℕ → List ℕ → ℕ → Answer (List ℕ)
 fromOctetsAnswer p elements octets wordsLen =
     answer
     (lengthTests p (eqb (length octets) (elementsLength p elements) && eqb wordsLen (elements * p .n)))
-    (refuse 8 (not (elementsFit p elements octets)) ∷ [])
+    (fromOctetsTests p elements octets)
     (decodedElements p elements octets)
+
+abbrev pub toOctetsTests : Parameters → List ℕ → List Test
+toOctetsTests p words = refuse 8 (not (coefficientsFit (p .q) words)) ∷ []
 
 unfoldable pub toOctetsAnswer : Parameters → ℕ → List ℕ → ℕ → Answer (List ℕ)
 toOctetsAnswer p elements words octetsLen =
     answer
     (lengthTests p (eqb (length words) (elements * p .n) && eqb octetsLen (elementsLength p elements)))
-    (refuse 8 (not (coefficientsFit (p .q) words)) ∷ [])
+    (toOctetsTests p words)
     (encoded (qlen (p .q)) words)
 
 abbrev pub chunk : ℕ → List ℕ → ℕ → List ℕ
@@ -39,18 +46,24 @@ chunk len list i = take len (drop (i * len) list)
 abbrev pub eachBitsClear : Parameters → ℕ → List ℕ → Bool
 eachBitsClear p elements octets = every elements (λ i. paddingClear (p .n * smallBits (p .l)) (chunk (smallLength p) octets i))
 
+abbrev pub packedFromTests : Parameters → ℕ → List ℕ → List Test
+packedFromTests p elements octets = refuse 7 (not (eachBitsClear p elements octets)) ∷ []
+
 unfoldable pub packedFromAnswer : Parameters → ℕ → List ℕ → ℕ → Answer (List ℕ)
 packedFromAnswer p elements octets wordsLen =
     answer
     (lengthTests p (eqb (length octets) (elements * smallLength p) && eqb wordsLen (elements * p .n)))
-    (refuse 7 (not (eachBitsClear p elements octets)) ∷ [])
+    (packedFromTests p elements octets)
     (joined (tabulate elements (λ i. unpacked (smallBits (p .l)) (p .n) (chunk (smallLength p) octets i))))
+
+abbrev pub packedToTests : Parameters → List ℕ → List Test
+packedToTests p words = refuse 8 (not (coefficientsFit (p .l) words)) ∷ []
 
 unfoldable pub packedToAnswer : Parameters → ℕ → List ℕ → ℕ → Answer (List ℕ)
 packedToAnswer p elements words octetsLen =
     answer
     (lengthTests p (eqb (length words) (elements * p .n) && eqb octetsLen (elements * smallLength p)))
-    (refuse 8 (not (coefficientsFit (p .l) words)) ∷ [])
+    (packedToTests p words)
     (joined (tabulate elements (λ i. packed (smallBits (p .l)) (smallLength p) (chunk (p .n) words i))))
 
 pub record ConversionExit : Type 0 where

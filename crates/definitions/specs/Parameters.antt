@@ -14,6 +14,7 @@
 --   elementsLength   the octets of so many ring elements
 --   smallLength      ⌈n × b / 8⌉;  secretLength, publicLength, ciphertextLength, messageLength: the octets of each
 --   workLength       8 × n words of 32 bits
+--   limitsOf         the bound and the headroom of a set;  lengthsOf: its lengths
 --   limitsAnswer     the bound and the headroom of an accepted set, or the refusal;  lengthsAnswer: the lengths
 --   limitsExit, lengthsExit  the number and the outputs at exit, from what they held before: what contracts equate
 -- Assumes nothing.

@@ -9,7 +9,8 @@
 --   workAtExit       the work words at exit: as they were after a refusal from the length test or one before it, otherwise zero
 --
 -- The numbers: 1 range, 2 ring, 3 degree, 4 modulus, 5 message size, 6 length, 7 padding, 8 coefficient, 9 exhausted (01: spent), 10 tail, 11 line.
--- Where several apply, the first of the list is given: 01 gives the lowest number, and every list here goes by rising numbers.
+-- Where several apply, the first of the list is given: 01 gives 11 first where it occurs, then the lowest number, and so every list goes
+-- (Order.antt).
 -- Assumes nothing.
 use Prim.Native.Nat.{ℕ, zero, suc}
 use mathlib.Core.Bool.{Bool, cond}

@@ -9,6 +9,7 @@
 --   numbersOf        the numbers of a line
 --   setOf            the set that six numbers name, in the order ℓ q n dX dr mlen
 --   limitsText       the text of a set's answer: 0, B and s, or the refusal alone
+--   lineTests        the tests of a line: its form, then its set
 --   lineLimits       the answer to a line: 11 where it is malformed, otherwise that of its set;  lineAnswer: the text printed for it
 --   roomsheet        the text printed for a text
 -- Assumes nothing.
@@ -18,7 +19,7 @@ use mathlib.Core.List.{List, [], _∷_, _++_, map}
 use lib.Dec.{eqb, leb}
 use lib.ListN.{length, getD}
 use Rattle.definitions.specs.Sequences.{every, howMany, tabulate, joined}
-use Rattle.definitions.specs.Refusals.{Answer, untouched, refused, accepted, refuse, answer}
+use Rattle.definitions.specs.Refusals.{Test, refuse, Answer, untouched, refused, accepted, answer}
 use Rattle.definitions.specs.Parameters.{Parameters, Limits, setTests, limitsOf}
 
 abbrev pub Text : Type 0
@@ -86,10 +87,13 @@ limitsText (refused k) = decimalText k
 limitsText (accepted limits) =
     decimalText 0 ++ (32 ∷ (decimalText (limits .bound) ++ (32 ∷ decimalText (limits .headroom))))
 
+abbrev pub lineTests : Text → List Test
+lineTests line = refuse 11 (not (wellFormed 6 line)) ∷ setTests (setOf (numbersOf line))
+
 unfoldable pub lineLimits : Text → Answer Limits
 lineLimits line =
     answer
-    (refuse 11 (not (wellFormed 6 line)) ∷ setTests (setOf (numbersOf line)))
+    (lineTests line)
     []
     (limitsOf (setOf (numbersOf line)))
 

@@ -1,4 +1,4 @@
--- 01, "Worked list": the cases marked P, as one table of rows. proofs/WorkedCases.antt shows that they follow from the definitions.
+-- 01, "Worked list": the cases marked P, as one table of rows. proofs/Computed.antt shows that they follow from the definitions.
 --
 --   setA             ℓ 4, q 1459, n 2, dX 1, dr 1, mlen 4
 --   Row              what the definitions give, beside what 01 says

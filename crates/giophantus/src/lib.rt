@@ -1,7 +1,7 @@
 // The C interface (include/giophantus.h): every call begins with the six numbers of the set, in the order l q n dx dr mlen, and answers
 // the refusal number, 0 at success. Nothing here asks anything of its callers: unfit input is refused by document 01's table, and a
-// refusal leaves every output as it was. Each export makes the set by its constructor and hands it to the call behind it; its contract is the
-// definitions' promise of that call (definitions/specs/Contracts.antt) at the set that the six numbers name.
+// refusal leaves every output as it was. Each export makes the set by its constructor and goes on with an accepted one; its contract is the
+// definitions' promise of the call (definitions/specs/Contracts.antt) at the set that the six numbers name, and setTests for the check.
 pub mod conversion;
 
 ghost use mathlib.Core.Path.{_≡_};
