@@ -24,7 +24,7 @@ use Rattle.definitions.proofs.Filling.{tabulate-add, length-borrowed}
 use Rattle.definitions.proofs.Ring.{conv-cong}
 use Rattle.definitions.proofs.Octets.{length-encoded, encoded-append}
 use Rattle.ring.specs.Work.{part, written}
-use Rattle.ring.proofs.Lent.{putMid-written}
+use Rattle.ring.proofs.Borrowed.{putMid-written}
 use Rattle.mask_products.specs.Products.{maskIn, sumIn, SumIs}
 use Rattle.ciphertext_elements.specs.Elements.{encryptedSum}
 

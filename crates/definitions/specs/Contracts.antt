@@ -1,7 +1,7 @@
 -- What each call promises, as one equation over its arguments as a contract sees them: what the caller has at exit, the number and every output
 -- and the work words, is what 01 defines from what was lent at entry.
 --
---   Lent             what is lent, at entry and at exit;  Buffer: octets or words;  Cell: a number behind a pointer
+--   Borrowed         what is lent, at entry and at exit;  Buffer: octets or words;  Cell: a number behind a pointer
 --   before, after    what a buffer or a cell holds at entry, and at exit
 --   Bounds, Measures the set's bound and headroom; its lengths
 --   Makes            key generation (01: key making);  Tests: the zero test;  Encrypts: encryption (sealing);  Adds: addition;
@@ -18,19 +18,19 @@ use Rattle.definitions.specs.Parameters.{Parameters, LimitsExit, limitsE
 use Rattle.definitions.specs.Calls.{KeygenExit, keygenExit, IsZeroExit, isZeroExit, EncryptExit, encryptExit, AddExit, addExit, DecryptExit, decryptExit}
 use Rattle.definitions.specs.Conversions.{ConversionExit, fromOctetsExit, toOctetsExit, packedFromExit, packedToExit}
 
-abbrev pub Lent : Type 0 → Type 0
-Lent A = Both (RefT A) (RefT A)
+abbrev pub Borrowed : Type 0 → Type 0
+Borrowed A = Both (RefT A) (RefT A)
 
 abbrev pub Buffer : Type 0
-Buffer = Lent (List ℕ)
+Buffer = Borrowed (List ℕ)
 
 abbrev pub Cell : Type 0
-Cell = Lent ℕ
+Cell = Borrowed ℕ
 
-abbrev pub before : {A : Type 0} → Lent A → A
+abbrev pub before : {A : Type 0} → Borrowed A → A
 before x = now (x .entry)
 
-abbrev pub after : {A : Type 0} → Lent A → A
+abbrev pub after : {A : Type 0} → Borrowed A → A
 after x = now (x .exit)
 
 abbrev pub Bounds : Parameters → Cell → Cell → ℕ → Type 0

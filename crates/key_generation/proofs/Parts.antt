@@ -1,6 +1,6 @@
 -- What stands where in a list after a part of it was lent and given back.
 --
---   lent-slice       what is lent is the slice;  put-follows: what comes back stands behind what stood before it
+--   borrowed-slice       what is lent is the slice;  put-follows: what comes back stands behind what stood before it
 --   follows-slice    such a list is the slice;  follows-kept: and what stood before it is as it was
 --   slice-kept       a slice of a front that is as it was;  slice-at: its elements
 --   follows-twice    two lists one behind the other;  put-tail: a tail that was lent;  put-zeros: zeros behind a slice
@@ -16,8 +16,8 @@ use borrow.Rule.Slice.PartMut.{midOf, postOf, putMid, same-len-mid, mid-len}
 use Rattle.key_generation.specs.Keys.{Follows}
 
 module _ (a e : ℕ) (l : List ℕ) (h : a ≤ e) (g : e ≤ length l) where
-  pub lent-slice : midOf a (e - a) l ≡ slice a e l
-  lent-slice =
+  pub borrowed-slice : midOf a (e - a) l ≡ slice a e l
+  borrowed-slice =
       let whole : a + (e - a) ≡ e = omega arith in
       sym (ap (drop a) (ap (λ (m : ℕ). take m l) (sym whole) ∙ take-add a (e - a) l)
       ∙ drop-at (take a l) (midOf a (e - a) l) a (length-take-le a l (omega arith)))
@@ -58,5 +58,5 @@ pub put-zeros : (a e n : ℕ) (l zeros : List ℕ) → a ≤ e → e + n ≤ len
 put-zeros a e n l zeros h g same z =
     let given : List ℕ = putMid e (e + n - e) l zeros in
     let f : Follows e (e + n) zeros l given = put-follows e (e + n) l (omega arith) g zeros same in
-    lent-slice a (e + n) given (omega arith) (omega (arith, same-len-mid e (e + n - e) l zeros same))
+    borrowed-slice a (e + n) given (omega arith) (omega (arith, same-len-mid e (e + n - e) l zeros same))
     ∙ ap (drop a) f ∙ drop-append-le a (take e l) zeros (omega (arith, length-take-le e l (omega arith))) ∙ ap (λ (r : List ℕ). slice a e l ++ r) z

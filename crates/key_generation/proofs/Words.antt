@@ -39,7 +39,7 @@ use Rattle.ring.specs.Work.{part}
 use Rattle.decoding.specs.Elements.{Sizes}
 use Rattle.key_generation.specs.Keys.{Follows, termsEnd, wordsTerms, HalvesDrawn, KeyWords}
 use Rattle.key_generation.proofs.Constant.{count-suc}
-use Rattle.key_generation.proofs.Parts.{lent-slice, put-zeros, put-follows, follows-slice, follows-kept, slice-kept, slice-at}
+use Rattle.key_generation.proofs.Parts.{borrowed-slice, put-zeros, put-follows, follows-slice, follows-kept, slice-kept, slice-at}
 
 pub used-room : (p : Parameters) (random : List ℕ) → secretLength p ≤ length random
     → secretLength p + qlen (p .q) * keyDraws p random .groups ≤ length random
@@ -168,5 +168,5 @@ pub half-packed : (p : Parameters) (work secret last : List ℕ) (at to : ℕ) {
 half-packed p work secret last at to {one = one} eb eo words room same made =
     let left : to + one - to ≡ one = omega arith in
     let octets : length (midOf to (to + one - to) secret) ≡ one = mid-len to (to + one) secret room ∙ left in
-    rw (← eb, ← eo, ← lent-slice at (at + p .n) work (omega arith) words, ← (rw octets at made))
+    rw (← eb, ← eo, ← borrowed-slice at (at + p .n) work (omega arith) words, ← (rw octets at made))
     (put-follows to (to + one) secret (omega arith) room last same)

@@ -2,7 +2,7 @@
 -- then the same before and after a step, so that steps compose.
 --
 --   mask-at, mask-same   the mask's element j stands in part j;  the mask is as it was where the words of the first six parts are, and
---                    only there (word-kept);  spare-mask: it is where part 6 was written;  lent-wrote: a part was lent and filled
+--                    only there (word-kept);  spare-mask: it is where part 6 was written;  borrowed-wrote: a part was lent and filled
 --   sum-wrote        the sum was written;  sum-gains: an element was added in place;  sum-cong: the same sum modulo q, in another form
 --   sum-then         an element was added to a sum
 --   gains-none, -by  nothing was added;  gains-spare: part 6 was filled first
@@ -30,7 +30,7 @@ use Rattle.definitions.proofs.Congruence.{Cong, cong-of-eq}
 use Rattle.definitions.proofs.Monomials.{monomialCount-mono}
 use Rattle.definitions.proofs.Octets.{coefficientsFit-at}
 use Rattle.ring.specs.Work.{part, written}
-use Rattle.ring.proofs.Lent.{putMid-written}
+use Rattle.ring.proofs.Borrowed.{putMid-written}
 use Rattle.ring.proofs.Work.{Wrote, wrote}
 use Rattle.mask_products.specs.Products.{maskIn, sumIn, firstTerms, elementTerms, productTerm, KeyAndMask, Adding, SumIs, SumGains}
 
@@ -75,9 +75,9 @@ module _ (p : Parameters) where
   sum-gains w = record { is = sum-wrote w (λ k l. refl) }
 
 -- a part that was lent and filled
-pub lent-wrote : (at n : ℕ) (old ys : List ℕ) {new : List ℕ} → new ≡ ys → length ys ≡ n → at + n ≤ length old
+pub borrowed-wrote : (at n : ℕ) (old ys : List ℕ) {new : List ℕ} → new ≡ ys → length ys ≡ n → at + n ≤ length old
     → Wrote at n (elementOf ys) old (putMid at (at + n - at) old new)
-lent-wrote at n old ys {new} e sized room =
+borrowed-wrote at n old ys {new} e sized room =
     wrote room
     (putMid-written at n old new (ap length e ∙ sized)
     ∙ ap (λ (l : List ℕ). written at l old) (e ∙ sym (tabulate-getD ys 0) ∙ ap (λ (c : ℕ). tabulate c (elementOf ys)) sized))

@@ -14,7 +14,7 @@ use Rattle.definitions.proofs.Packing.{length-unpacked}
 use Rattle.definitions.proofs.Filling.{length-borrowed}
 use Rattle.parameters.specs.Answers.{setFrom}
 use Rattle.parameters.proofs.Bounds.{smallBits-within}
-use Rattle.mask_products.proofs.Sums.{work-words, lent-wrote, gains-none, gains-by}
+use Rattle.mask_products.proofs.Sums.{work-words, borrowed-wrote, gains-none, gains-by}
 use Rattle.ciphertext_elements.proofs.Elements.{degree-most, count-most, message-scaled, constantTerm-last, constantTerm-other, scaled-requires, gains-scaled}
 use Rattle.ciphertext_elements.proofs.add_message.Statement.{statement}
 use Rattle.ciphertext_elements.proofs.add_message.Tie as tie
@@ -70,7 +70,7 @@ add-scaled-requires c κs =
     let p = setFrom (s .args .p) in
     let set = accepted-set p (s .pre .0 .0) in
     scaled-requires p 1 (room s)
-    (lent-wrote (6 * p .n) (p .n) (s .args .work .now) (unpacked (smallBits (p .l)) (p .n) (s .args .message .now)) (unpacked-told call) (length-unpacked _ _ _) (omega (arith, room s)))
+    (borrowed-wrote (6 * p .n) (p .n) (s .args .work .now) (unpacked (smallBits (p .l)) (p .n) (s .args .message .now)) (unpacked-told call) (length-unpacked _ _ _) (omega (arith, room s)))
     (omega (arith, set .modulus-most)) (s .pre .0 .2) (message-scaled p set (s .args .message .now))
 
 returns-2 : tie.Need-returns-2
@@ -81,7 +81,7 @@ returns-2 c =
     let tested = bits call .before .before in
     gains-by (λ mask. constantTerm (degree p) (smallOf p (s .args .message .now)) (s .args .m))
     (gains-scaled p 1 (room s)
-    (lent-wrote (6 * p .n) (p .n) (s .args .work .now) (unpacked (smallBits (p .l)) (p .n) (s .args .message .now)) (unpacked-told call) (length-unpacked _ _ _) (omega (arith, room s)))
+    (borrowed-wrote (6 * p .n) (p .n) (s .args .work .now) (unpacked (smallBits (p .l)) (p .n) (s .args .message .now)) (unpacked-told call) (length-unpacked _ _ _) (omega (arith, room s)))
     (c .before .before .add-scaled .ensures))
     (λ k l. constantTerm-last p (s .args .message .now) (s .args .m) k (tested .if1 .left ∙ tested .before .monomial-count .ensures))
 

@@ -11,7 +11,7 @@ use Rattle.definitions.specs.Calls.{noiseOf}
 use Rattle.definitions.proofs.Parameters.{accepted-set}
 use Rattle.definitions.proofs.Filling.{length-borrowed}
 use Rattle.parameters.specs.Answers.{setFrom}
-use Rattle.mask_products.proofs.Sums.{work-words, lent-wrote, gains-by}
+use Rattle.mask_products.proofs.Sums.{work-words, borrowed-wrote, gains-by}
 use Rattle.ciphertext_elements.proofs.Elements.{length-noise, noise-at, noise-scaled, scaled-requires, gains-scaled}
 use Rattle.ciphertext_elements.proofs.add_noise.Statement.{statement}
 use Rattle.ciphertext_elements.proofs.add_noise.Tie as tie
@@ -56,7 +56,7 @@ add-scaled-requires c κs =
     let p = setFrom (s .args .p) in
     let set = accepted-set p (s .pre .0 .0) in
     scaled-requires p (p .l) (room s)
-    (lent-wrote (6 * p .n) (p .n) (s .args .work .now) (noisy (sized call)) (call .draw-noise .ensures) (length-noise p _) (omega (arith, room s)))
+    (borrowed-wrote (6 * p .n) (p .n) (s .args .work .now) (noisy (sized call)) (call .draw-noise .ensures) (length-noise p _) (omega (arith, room s)))
     (omega (arith, set .modulus-most)) (s .pre .0 .2) (noise-scaled p set _)
 
 returns : tie.Need-returns
@@ -66,7 +66,7 @@ returns c =
     let p = setFrom (s .args .p) in
     gains-by (λ mask k. p .l * noiseOf p (s .args .noise .now) (s .args .m) k)
     (gains-scaled p (p .l) (room s)
-    (lent-wrote (6 * p .n) (p .n) (s .args .work .now) (noisy (sized call)) (call .draw-noise .ensures) (length-noise p _) (omega (arith, room s)))
+    (borrowed-wrote (6 * p .n) (p .n) (s .args .work .now) (noisy (sized call)) (call .draw-noise .ensures) (length-noise p _) (omega (arith, room s)))
     (c .before .before .add-scaled .ensures))
     (λ k l. ap (λ (x : ℕ). p .l * x) (noise-at p (s .args .noise .now) (s .args .m) k (sized call .small-length .ensures)))
 

@@ -11,7 +11,7 @@ use Rattle.definitions.specs.Octets.{decoded}
 use Rattle.definitions.proofs.Octets.{length-decoded}
 use Rattle.definitions.proofs.Filling.{length-borrowed}
 use Rattle.ring.specs.Work.{written}
-use Rattle.ring.proofs.Lent.{putMid-written}
+use Rattle.ring.proofs.Borrowed.{putMid-written}
 use Rattle.decoding.proofs.Elements.{decoded-element}
 use Rattle.decoding.proofs.element.Statement.{statement}
 use Rattle.decoding.proofs.element.Tie as tie

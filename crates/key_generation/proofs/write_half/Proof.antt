@@ -5,7 +5,7 @@ use native.Mathlib.Omega.{arith}
 use borrow.Author.Needs.{needs}
 use Rattle.definitions.proofs.Parameters.{accepted-set}
 use Rattle.parameters.specs.Answers.{setFrom}
-use Rattle.key_generation.proofs.Parts.{lent-slice}
+use Rattle.key_generation.proofs.Parts.{borrowed-slice}
 use Rattle.key_generation.proofs.Words.{small-packs, half-packed}
 use Rattle.key_generation.proofs.write_half.Statement.{statement}
 use Rattle.key_generation.proofs.write_half.Tie as tie
@@ -20,7 +20,7 @@ pack-requires : tie.Need-pack-requires
 pack-requires c κs =
     let b = c .before in
     let s = start (sized b) in
-    let words = lent-slice (s .args .at) (s .args .at + s .args .p .n) (s .args .work .now) (omega arith) (s .pre .1) in
+    let words = borrowed-slice (s .args .at) (s .args .at + s .args .p .n) (s .args .work .now) (omega arith) (s .pre .1) in
     small-packs (setFrom (s .args .p)) (accepted-set _ (s .pre .0)) _ (b .bits .ensures) words (s .pre .2)
 
 returns : tie.Need-returns

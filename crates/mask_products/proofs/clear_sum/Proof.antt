@@ -8,7 +8,7 @@ use lib.ListN.{replicate, length-replicate, getD-replicate}
 use borrow.Author.Needs.{needs}
 use Rattle.definitions.proofs.Filling.{length-borrowed}
 use Rattle.parameters.specs.Answers.{setFrom}
-use Rattle.mask_products.proofs.Sums.{work-words, lent-wrote, sum-wrote}
+use Rattle.mask_products.proofs.Sums.{work-words, borrowed-wrote, sum-wrote}
 use Rattle.mask_products.proofs.clear_sum.Statement.{statement}
 use Rattle.mask_products.proofs.clear_sum.Tie as tie
 
@@ -24,7 +24,7 @@ returns c =
     let p = setFrom (s .args .p) in
     let room = work-words p (s .args .work .now) (s .pre .1) in
     sum-wrote p
-    (lent-wrote (7 * p .n) (p .n) (s .args .work .now) (replicate (p .n) 0)
+    (borrowed-wrote (7 * p .n) (p .n) (s .args .work .now) (replicate (p .n) 0)
     (c .before .before .clear .ensures ∙ ap (λ (m : ℕ). replicate m 0) (length-borrowed (7 * p .n) (p .n) (s .args .work .now) (omega arith)))
     (length-replicate (p .n) 0) (omega arith))
     (λ k l. getD-replicate (p .n) k 0 0 l ∙ sym (zero-mod (p .q)))

@@ -13,7 +13,7 @@ use Rattle.definitions.proofs.Filling.{length-borrowed}
 use Rattle.parameters.specs.Answers.{setFrom}
 use Rattle.parameters.proofs.Bounds.{smallBits-within}
 use Rattle.ring.specs.Work.{written}
-use Rattle.ring.proofs.Lent.{putMid-written}
+use Rattle.ring.proofs.Borrowed.{putMid-written}
 use Rattle.secrets.specs.Secrets.{half}
 use Rattle.secrets.proofs.unpack_half.Statement.{statement}
 use Rattle.secrets.proofs.unpack_half.Tie as tie

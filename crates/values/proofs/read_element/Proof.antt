@@ -14,7 +14,7 @@ use Rattle.definitions.specs.Calls.{polynomialIn}
 use Rattle.definitions.proofs.Sums.{length-tabulate}
 use Rattle.definitions.proofs.Filling.{length-borrowed}
 use Rattle.ring.specs.Work.{written}
-use Rattle.ring.proofs.Lent.{putMid-written}
+use Rattle.ring.proofs.Borrowed.{putMid-written}
 use Rattle.decoding.proofs.Elements.{decoded-drop}
 use Rattle.judging.specs.Reading.{fitNumber}
 use Rattle.values.proofs.Loops.{placed-written}
