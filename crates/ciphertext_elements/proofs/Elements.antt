@@ -24,7 +24,7 @@ use Rattle.definitions.proofs.Parameters.{Accepted, range-least, range-most, ke
 use Rattle.definitions.proofs.Congruence.{cong-of-eq}
 use Rattle.definitions.proofs.Packing.{length-unpacked}
 use Rattle.definitions.proofs.Small.{unpacked-small}
-use Rattle.lengths.proofs.Bounds.{monomialCount-le}
+use Rattle.definitions.proofs.Monomials.{count-fifteen}
 use Rattle.parameters.proofs.NoiseBound.{partial, power, partial-suc, partial-le, bound-partial, turn-start}
 use Rattle.ring.specs.Work.{part, Apart, scaledAdded}
 use Rattle.ring.proofs.Work.{Wrote, wrote}
@@ -63,7 +63,7 @@ module _ (p : Parameters) (a : Accepted p) where
   degree-most = omega (arith, key-degree-most p a, mask-degree-most p a)
 
   pub count-most : monomialCount (degree p) ≤ 15
-  count-most = monomialCount-le (degree p) degree-most
+  count-most = count-fifteen (degree p) degree-most
 
 -- ---- part 6 is filled, and c times it is added
 module _ (p : Parameters) (c : ℕ) {a : Element} {old mid : List ℕ} (room : length old ≡ 8 * p .n) (w : Wrote (6 * p .n) (p .n) a old mid) where

@@ -42,7 +42,7 @@ fn add_message(p: Parameters, message: &[u8], m: usize, work: &mut [u32])
     requires { ⌜ m < monomialCount (degree (setFrom p)) ⌝ }
     ensures { λ _. ⌜ SumGains (setFrom p) (λ mask. constantTerm (degree (setFrom p)) (smallOf (setFrom p) (before message)) m) (before work) (after work) ⌝ }
 {
-    if m + 1 != lengths::monomial_count(p.dx + p.dr) {
+    if m + 1 != monomials::monomial_count(p.dx + p.dr) {
         return;
     }
     let n = p.n as usize;
@@ -113,7 +113,7 @@ fn write_each(
     requires { ⌜ (0 < length (now list) → PreparedKey (setFrom p) (now public) (now work) (now list)) ⌝ }
     ensures { λ _. ⌜ after ciphertext ≡ encryptedFrom (setFrom p) (before public) (before message) (before noise) (before work) ⌝ }
 {
-    let count = lengths::monomial_count(p.dx + p.dr);
+    let count = monomials::monomial_count(p.dx + p.dr);
     let mut m = 0;
     while m < count {
         sum_element(p, public, message, noise, list, m, work);
@@ -206,7 +206,7 @@ pub fn write_elements(
         write_unshared(p, public, message, noise, ciphertext, work);
         return;
     }
-    let words = lengths::monomial_count(p.dx) * (p.n as usize);
+    let words = monomials::monomial_count(p.dx) * (p.n as usize);
     if words <= 1024 {
         write_short(p, public, message, noise, ciphertext, work);
         return;

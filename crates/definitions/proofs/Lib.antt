@@ -24,6 +24,7 @@ pub mod RoundTrips
 pub mod Represents
 pub mod Decryption
 pub mod Zeros
+pub mod KeyTerms
 pub mod MadeKeys
 pub mod Kept
 pub mod Ledger

@@ -1,31 +1,25 @@
 -- Why a made key has its secret as a zero: its constant is minus the value of its other terms there, so the value of the whole is 0 modulo q.
 -- Assumes nothing.
 use Prim.Native.Nat.{ℕ, suc, _+_, _-_, _*_, _/_, _%_, _<_}
-use mathlib.Core.Path.{_≡_, ap, ap₂, _∙_, subst}
+use mathlib.Core.Path.{_≡_, subst}
 use mathlib.Core.Bool.{true}
 use mathlib.Core.List.{List, _++_}
 use native.Mathlib.Nat.{mod-lt, div-add-mod, add-mod-mod, mul-mod-right}
 use native.Mathlib.Omega.{arith}
-use lib.Arith.{digits-lt}
-use lib.ListN.{length, take, drop, length-append, List·getD-append}
-use lib.Seq.{getD-append-add}
+use lib.ListN.{length, getD, take, drop}
 use Rattle.definitions.specs.Sequences.{tabulate}
-use Rattle.definitions.specs.Parameters.{Parameters, qlen, monomialCount, smallLength, elementsLength, publicLength}
+use Rattle.definitions.specs.Parameters.{Parameters, qlen, monomialCount, smallLength}
 use Rattle.definitions.specs.Ring.{Element, elementOf}
-use Rattle.definitions.specs.Monomials.{polynomialOf}
 use Rattle.definitions.specs.Octets.{encoded}
 use Rattle.definitions.specs.Draws.{secretDrawn}
-use Rattle.definitions.specs.Calls.{KeyPair, polynomialFrom, keyDraws, keyConstant, keyPairOf}
+use Rattle.definitions.specs.Calls.{KeyPair, keyDraws, keyConstant, keyPairOf}
 use Rattle.definitions.specs.Demand3.{AcceptedSet, ZeroOf, InSmallRing, secretOf, MadeKeys}
 use Rattle.definitions.proofs.Sums.{length-tabulate, getD-tabulate}
 use Rattle.definitions.proofs.Parameters.{Accepted, accepted-set, modulus-positive}
-use Rattle.definitions.proofs.Monomials.{monomialCount-pos}
-use Rattle.definitions.proofs.Octets.{AllBelow, below-append, length-encoded}
+use Rattle.definitions.proofs.Octets.{AllBelow}
 use Rattle.definitions.proofs.Draws.{draws-values-below, draws-values-length}
-use Rattle.definitions.proofs.Elements.{polynomialFrom-encoded, elementsFit-encoded}
 use Rattle.definitions.proofs.Small.{unpacked-small}
-use Rattle.definitions.proofs.Values.{value-split, value-cong, valueOver-cong}
-use Rattle.definitions.proofs.Represents.{Vanishes}
+use Rattle.definitions.proofs.KeyTerms.{key-length, key-fits, key-value}
 use Rattle.definitions.proofs.Calls.{keygen-told}
 use Rattle.definitions.proofs.Zeros.{vanishes-zero}
 
@@ -34,58 +28,27 @@ negated-sum q v pos =
     let whole : v + (q - v % q) ≡ q * suc (v / q) = omega (arith, div-add-mod v q, mod-lt v pos) in
     rw (add-mod-mod, whole, mul-mod-right)
 
--- the key's coefficients: those drawn, then the constant's
-abbrev keyCoefficients : Parameters → Element → Element → List ℕ → List ℕ
-keyCoefficients p ux uy others = others ++ tabulate (p .n) (keyConstant p others ux uy)
-
-module _ (p : Parameters) (a : Accepted p) (ux uy : Element) (others : List ℕ) (sized : length others ≡ (monomialCount (p .dx) - 1) * p .n) where
-  coefficients-length : length (keyCoefficients p ux uy others) ≡ monomialCount (p .dx) * p .n
-  coefficients-length =
-      let one-more : monomialCount (p .dx) ≡ suc (monomialCount (p .dx) - 1) = omega (arith, monomialCount-pos (p .dx)) in
-      length-append others _ ∙ ap₂ _+_ sized (length-tabulate (p .n) _) ∙ omega (arith, ap (λ (x : ℕ). x * p .n) one-more)
-
-  coefficients-below : AllBelow (p .q) others → AllBelow (p .q) (keyCoefficients p ux uy others)
-  unfolding keyConstant
-  coefficients-below below =
-      below-append (p .q) others _ below
-      (λ k l. rw (getD-tabulate (p .n) (keyConstant p others ux uy) 0 (rw (length-tabulate (p .n) (keyConstant p others ux uy)) at l)) (mod-lt _ (modulus-positive p a)))
-
-  key-others : (i : ℕ) → i < monomialCount (p .dx) - 1 → (k : ℕ) → k < p .n → polynomialOf (p .n) (keyCoefficients p ux uy others) i k ≡ polynomialOf (p .n) others i k
-  unfolding polynomialOf
-  key-others i l k s = List·getD-append others _ 0 (i * p .n + k) (rw sized (digits-lt l s))
-
-  key-constant : (k : ℕ) → k < p .n → polynomialOf (p .n) (keyCoefficients p ux uy others) (monomialCount (p .dx) - 1) k ≡ keyConstant p others ux uy k
-  unfolding polynomialOf
-  key-constant k s = rw (← sized) (getD-append-add others _ k 0) ∙ getD-tabulate (p .n) (keyConstant p others ux uy) 0 s
-
-  key-vanishes : Vanishes (p .q) (p .n) (p .dx) (polynomialOf (p .n) (keyCoefficients p ux uy others)) ux uy
-  unfolding keyConstant
-  key-vanishes k s =
-      rw (
-        value-split (p .n) (p .dx) (polynomialOf (p .n) (keyCoefficients p ux uy others)) ux uy s,
-        valueOver-cong (monomialCount (p .dx) - 1) (p .n) (p .dx) ux uy key-others k,
-        key-constant k s,
-      )
-      (negated-sum (p .q) _ (modulus-positive p a))
-
-  key-read : AllBelow (p .q) others → (i : ℕ) → i < monomialCount (p .dx) → (k : ℕ) → k < p .n
-      → polynomialFrom p (encoded (qlen (p .q)) (keyCoefficients p ux uy others)) i k ≡ polynomialOf (p .n) (keyCoefficients p ux uy others) i k
-  key-read below i l k s = polynomialFrom-encoded p a (monomialCount (p .dx)) _ coefficients-length (coefficients-below below) l s
-
-  key-length : length (encoded (qlen (p .q)) (keyCoefficients p ux uy others)) ≡ publicLength p
-  unfolding publicLength elementsLength
-  key-length = length-encoded (qlen (p .q)) (keyCoefficients p ux uy others) ∙ ap (λ (x : ℕ). x * qlen (p .q)) coefficients-length
-
 module _ (p : Parameters) (set : AcceptedSet p) (ux uy others : List ℕ) (hx : InSmallRing p ux) (hy : InSmallRing p uy)
     (sized : length others ≡ (monomialCount (p .dx) - 1) * p .n) (below : AllBelow (p .q) others) where
-  key-zero : ZeroOf p (encoded (qlen (p .q)) (keyCoefficients p (elementOf ux) (elementOf uy) others)) (secretOf p ux uy)
+  abbrev constant : Element
+  constant = keyConstant p others (elementOf ux) (elementOf uy)
+
+  constant-at : (k : ℕ) → k < p .n → getD (tabulate (p .n) constant) k 0 ≡ constant k
+  constant-at k l = getD-tabulate (p .n) constant 0 l
+
+  constant-below : AllBelow (p .q) (tabulate (p .n) constant)
+  unfolding keyConstant
+  constant-below k l = rw (constant-at k (rw (length-tabulate (p .n) constant) at l)) (mod-lt _ (modulus-positive p (accepted-set p set)))
+
+  key-zero : ZeroOf p (encoded (qlen (p .q)) (others ++ tabulate (p .n) constant)) (secretOf p ux uy)
+  unfolding keyConstant
   key-zero =
       let a : Accepted p = accepted-set p set in
-      let x : Element = elementOf ux in
-      let y : Element = elementOf uy in
-      vanishes-zero p set _ ux uy hx hy (key-length p a x y others sized)
-      (elementsFit-encoded p a (monomialCount (p .dx)) _ (coefficients-length p a x y others sized) (coefficients-below p a x y others sized below))
-      (λ k s. rw (value-cong (p .n) (p .dx) x y (key-read p a x y others sized below) k) (key-vanishes p a x y others sized k s))
+      let long : length (tabulate (p .n) constant) ≡ p .n = length-tabulate (p .n) constant in
+      vanishes-zero p set _ ux uy hx hy (key-length p a others _ sized long below constant-below)
+      (key-fits p a others _ sized long below constant-below)
+      (λ k l. rw (key-value p a others _ sized long below constant-below (elementOf ux) (elementOf uy) k l, constant-at k l)
+      (negated-sum (p .q) _ (modulus-positive p a)))
 
 drawn-length : (p : Parameters) (random : List ℕ) → keyDraws p random .enough ≡ true → length (keyDraws p random .values) ≡ (monomialCount (p .dx) - 1) * p .n
 unfolding keyDraws

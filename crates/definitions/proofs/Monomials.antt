@@ -40,6 +40,18 @@ pub monomialCount-mono : (d e : ℕ) → monomialCount d ≤ monomialCount (d + 
 monomialCount-mono d zero = rw (add-zero d) (le-refl (monomialCount d))
 monomialCount-mono d (suc e) = rw (add-suc d e) (omega (arith, monomialCount-suc (d + e), monomialCount-mono d e))
 
+pub monomialCount-le : (d e : ℕ) → d ≤ e → monomialCount d ≤ monomialCount e
+monomialCount-le d e l = let same : d + (e - d) ≡ e = omega arith in rw same at (monomialCount-mono d (e - d))
+
+-- a key or a mask of an accepted set has at most six, a ciphertext at most fifteen
+pub count-six : (d : ℕ) → d ≤ 2 → monomialCount d ≤ 6
+unfolding monomialCount
+count-six d l = monomialCount-le d 2 l
+
+pub count-fifteen : (d : ℕ) → d ≤ 4 → monomialCount d ≤ 15
+unfolding monomialCount
+count-fifteen d l = monomialCount-le d 4 l
+
 length-ofDegree : (d : ℕ) → length (ofDegree (suc d)) ≡ d + 2
 unfolding ofDegree
 length-ofDegree d = length-tabulate (suc (suc d)) _ ∙ sym (add-two d)

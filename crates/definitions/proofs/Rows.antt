@@ -9,7 +9,7 @@ use Rattle.definitions.specs.Sequences.{sum}
 use Rattle.definitions.specs.Parameters.{monomialCount}
 use Rattle.definitions.specs.Monomials.{monomialAt}
 use Rattle.definitions.proofs.Sums.{sum-cong, sum-add, sum-append}
-use Rattle.definitions.proofs.Monomials.{monomialCount-suc, monomialCount-mono, monomialAt-rest}
+use Rattle.definitions.proofs.Monomials.{monomialCount-suc, monomialCount-mono, monomialCount-le, monomialAt-rest}
 
 -- the lower degree's list is the tail of the higher one's
 pub monomialAt-tail : (d e i : ℕ) → monomialAt (d + e) (monomialCount (d + e) - monomialCount d + i) ≡ monomialAt d i
@@ -23,11 +23,8 @@ monomialAt-tail d (suc e) i =
 abbrev pub placeOf : ℕ → ℕ → ℕ → ℕ
 placeOf d i j = monomialCount d - monomialCount (i + j) + j
 
-pub monomialCount-mono-le : (k d : ℕ) → k ≤ d → monomialCount k ≤ monomialCount d
-monomialCount-mono-le k d l = let e : k + (d - k) ≡ d = omega arith in rw e at (monomialCount-mono k (d - k))
-
 pub placeOf-suc : (d i j : ℕ) → i + j ≤ d → placeOf (suc d) i j ≡ d + 2 + placeOf d i j
-placeOf-suc d i j l = omega (arith, monomialCount-suc d, monomialCount-mono-le (i + j) d l)
+placeOf-suc d i j l = omega (arith, monomialCount-suc d, monomialCount-le (i + j) d l)
 
 placeOf-top : (d i j : ℕ) → i + j ≡ d → placeOf d i j ≡ j
 placeOf-top d i j e = rw (e, sub-self (monomialCount d)) (zero-add j)

@@ -4,7 +4,7 @@
 --   Borrowed         what is lent, at entry and at exit;  Buffer: octets or words;  Cell: a number behind a pointer
 --   before, after    what a buffer or a cell holds at entry, and at exit
 --   Bounds, Measures the set's bound and headroom; its lengths
---   Makes            key generation (01: key making);  Tests: the zero test;  Encrypts: encryption (sealing);  Adds: addition;
+--   Makes            key generation (01: key making);  TellsZero: the zero test;  Encrypts: encryption (sealing);  Adds: addition;
 --                    Decrypts: decryption (opening)
 --   Decodes, Encodes so many ring elements from octets, and to octets;  Unpacks, Packs: so many packed small elements
 -- The number that the call answers comes last.
@@ -55,8 +55,8 @@ Makes p random secret public work used r =
     (record { refusal = r; secret = after secret; public = after public; used = after used; work = after work })
     (keygenExit p (before random) (before secret) (before public) (before used) (before work))
 
-abbrev pub Tests : Parameters → Buffer → Buffer → Buffer → Cell → ℕ → Type 0
-Tests p secret public work zero r =
+abbrev pub TellsZero : Parameters → Buffer → Buffer → Buffer → Cell → ℕ → Type 0
+TellsZero p secret public work zero r =
     _≡_ {A = IsZeroExit}
     (record { refusal = r; zero = after zero; work = after work })
     (isZeroExit p (before secret) (before public) (before zero) (before work))

@@ -33,7 +33,7 @@ use Rattle.draws.specs.Runs.{said, drawnAnswer}
 use Rattle.draws.proofs.Groups.{drawsAt-within}
 use Rattle.draws.proofs.Runs.{said-complete}
 use Rattle.mask_products.specs.Products.{maskIn, KeyAndMask}
-use Rattle.mask_products.proofs.Sums.{count-six}
+use Rattle.definitions.proofs.Monomials.{count-six}
 use Rattle.ciphertext_elements.specs.Elements.{encryptedFrom}
 use Rattle.ciphertext_elements.proofs.Ciphertext.{SameUpTo, encryptedWith-cong}
 use Rattle.encryption.specs.Steps.{EncryptJudged}

@@ -24,7 +24,7 @@ fn draw_mask(p: Parameters, random: &[u8], work: &mut [u32]) -> Run
     ensures { λ r. ⌜ said r (take (monomialCount (p .dr) * p .n) (after work)) ≡ drawnAnswer (maskDraws (setFrom p) (before random)) ⌝ }
 {
     let from = 0;
-    let end = lengths::monomial_count(p.dr) * (p.n as usize);
+    let end = monomials::monomial_count(p.dr) * (p.n as usize);
     draws::draw_below(random, 0, p.q, &mut work[from..end])
 }
 
@@ -45,7 +45,7 @@ fn encrypt_judged(
         return ring::cleared(work, refusals::EXHAUSTED);
     };
     let start = lengths::octets_of_coefficient(p.q) * groups;
-    let end = start + lengths::monomial_count(p.dx + p.dr) * lengths::small_length(p);
+    let end = start + monomials::monomial_count(p.dx + p.dr) * lengths::small_length(p);
     if random.len() < end {
         return ring::cleared(work, refusals::EXHAUSTED);
     }

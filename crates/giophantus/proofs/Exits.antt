@@ -14,7 +14,7 @@ use Rattle.definitions.specs.Calls.{lengthTests, KeygenExit, keygenLeaves, keyg
 use Rattle.definitions.specs.Conversions.{conversionLeaves, fromOctetsAnswer, fromOctetsExit, toOctetsAnswer, toOctetsExit, packedFromAnswer, packedFromExit, packedToAnswer, packedToExit}
 use Rattle.definitions.proofs.Parameters.{accepted-set, key-degree-most, mask-degree-most}
 use Rattle.definitions.proofs.Exits.{exit-set}
-use Rattle.lengths.proofs.Bounds.{monomialCount-le}
+use Rattle.definitions.proofs.Monomials.{count-fifteen}
 use Rattle.parameters.specs.Answers.{setAnswer, checkedAs}
 use Rattle.parameters.specs.declared.Parameters as Struct
 use Rattle.parameters.specs.declared.Checked.{Checked}
@@ -71,4 +71,4 @@ module _ (s : Parameters) {r : Checked} (e : checkedAs r ≡ setAnswer s) where
   degrees-most same = let set = accepted-set s (checked-accepted s e same .0) in (key-degree-most s set, mask-degree-most s set)
 
 pub count-most : (d : ℕ) {m : ℕ} → m ≡ monomialCount d → d ≤ 4 → m ≤ 15
-count-most d e h = rw e (monomialCount-le d h)
+count-most d e h = rw e (count-fifteen d h)

@@ -7,7 +7,7 @@ use conversions::decode;
 use conversions::encode;
 use conversions::pack;
 use conversions::unpack;
-use lengths::monomial_count;
+use monomials::monomial_count;
 use parameters::Checked;
 use parameters::Parameters;
 

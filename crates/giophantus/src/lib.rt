@@ -7,7 +7,7 @@ pub mod conversion;
 ghost use mathlib.Core.Path.{_≡_};
 ghost use Rattle.definitions.specs.Refusals.{firstRefusal};
 ghost use Rattle.definitions.specs.Parameters.{setTests};
-ghost use Rattle.definitions.specs.Contracts.{Bounds, Measures, Makes, Tests, Encrypts, Adds, Decrypts};
+ghost use Rattle.definitions.specs.Contracts.{Bounds, Measures, Makes, TellsZero, Encrypts, Adds, Decrypts};
 ghost use Rattle.giophantus.specs.Interface.{set};
 use addition::add;
 use decryption::decrypt;
@@ -120,7 +120,7 @@ pub extern "C" fn giophantus_is_zero(
     work: &mut [u32],
     zero: &mut u32,
 ) -> u32
-    ensures { λ r. ⌜ Tests (set l q n dx dr mlen) «secret_key» «public_key» work zero r ⌝ }
+    ensures { λ r. ⌜ TellsZero (set l q n dx dr mlen) «secret_key» «public_key» work zero r ⌝ }
 {
     match Parameters::new(l, q, n, dx, dr, mlen) {
         Checked::Accepted(p) => is_zero(p, secret_key, public_key, work, zero),

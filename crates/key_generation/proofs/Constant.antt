@@ -4,15 +4,14 @@
 --   constant-octets       the key's octets, once the constant's are written over those of 0
 --   constant-placed       an element's negative, written behind the octets of the terms
 -- Assumes nothing.
-use Prim.Native.Nat.{ℕ, suc, _+_, _-_, _*_, _%_, _≤_, _<_}
+use Prim.Native.Nat.{ℕ, _+_, _-_, _*_, _%_, _≤_, _<_}
 use native.Mathlib.Nat.{add-zero}
 use native.Mathlib.Omega.{arith}
 use mathlib.Core.Path.{_≡_, sym, ap, ap₂, _∙_}
 use mathlib.Core.Bool.{true}
 use mathlib.Core.List.{List, _++_}
-use lib.Arith.{digits-lt}
-use lib.ListN.{length, take, replicate, length-append, length-replicate, getD-replicate, List·getD-append}
-use lib.Seq.{take-at, getD-append-add}
+use lib.ListN.{length, getD, take, replicate, length-append, length-replicate, getD-replicate}
+use lib.Seq.{take-at}
 use borrow.Rule.Slice.PartMut.{midOf, putMid}
 use Rattle.definitions.specs.Sequences.{tabulate}
 use Rattle.definitions.specs.Parameters.{Parameters, qlen, monomialCount}
@@ -22,54 +21,37 @@ use Rattle.definitions.specs.Octets.{encoded}
 use Rattle.definitions.specs.Calls.{polynomialIn, polynomialFrom, elementsFit, keyConstant}
 use Rattle.definitions.proofs.Sums.{tabulate-cong}
 use Rattle.definitions.proofs.Parameters.{Accepted, modulus-positive}
-use Rattle.definitions.proofs.Monomials.{monomialCount-pos}
-use Rattle.definitions.proofs.Octets.{AllBelow, below-append, length-encoded, encoded-append}
-use Rattle.definitions.proofs.Elements.{polynomialFrom-encoded, elementsFit-encoded}
-use Rattle.definitions.proofs.Values.{value-split, value-cong, valueOver-cong, value-cong-secret}
+use Rattle.definitions.proofs.Octets.{AllBelow, length-encoded, encoded-append}
+use Rattle.definitions.proofs.Values.{value-cong-secret}
+use Rattle.definitions.proofs.KeyTerms.{key-fits, key-value}
 use Rattle.ring.specs.Work.{part, negated}
 use Rattle.ring.proofs.Work.{written-part}
 use Rattle.key_generation.specs.Keys.{withConstant}
 use Rattle.key_generation.proofs.Parts.{put-tail}
 
-pub count-suc : (d : ℕ) → monomialCount d ≡ suc (monomialCount d - 1)
-count-suc d = omega (arith, monomialCount-pos d)
-
 module _ (p : Parameters) (a : Accepted p) (others : List ℕ) (sized : length others ≡ (monomialCount (p .dx) - 1) * p .n) (below : AllBelow (p .q) others) where
-  abbrev terms : List ℕ
-  terms = others ++ replicate (p .n) 0
+  abbrev zeros : List ℕ
+  zeros = replicate (p .n) 0
 
   abbrev octets : List ℕ
-  octets = encoded (qlen (p .q)) terms
+  octets = encoded (qlen (p .q)) (others ++ zeros)
 
-  terms-length : length terms ≡ monomialCount (p .dx) * p .n
-  terms-length =
-      length-append others (replicate (p .n) 0) ∙ ap₂ _+_ sized (length-replicate {A = ℕ} (p .n) 0)
-      ∙ omega (arith, ap (λ (x : ℕ). x * p .n) (count-suc (p .dx)))
+  zeros-long : length zeros ≡ p .n
+  zeros-long = length-replicate {A = ℕ} (p .n) 0
 
-  terms-below : AllBelow (p .q) terms
-  terms-below =
-      below-append (p .q) others (replicate (p .n) 0) below
-      (λ k l. rw (getD-replicate {A = ℕ} (p .n) k 0 0 (rw (length-replicate {A = ℕ} (p .n) 0) at l)) (modulus-positive p a))
+  zero-at : (k : ℕ) → k < p .n → getD zeros k 0 ≡ 0
+  zero-at k l = getD-replicate {A = ℕ} (p .n) k 0 0 l
+
+  zeros-below : AllBelow (p .q) zeros
+  zeros-below k l = rw (zero-at k (rw zeros-long at l)) (modulus-positive p a)
 
   pub terms-fit : {public : List ℕ} → public ≡ octets → elementsFit p (monomialCount (p .dx)) public ≡ true
-  terms-fit same = rw same (elementsFit-encoded p a (monomialCount (p .dx)) terms terms-length terms-below)
-
-  term-other : (i : ℕ) → i < monomialCount (p .dx) - 1 → (k : ℕ) → k < p .n → polynomialOf (p .n) terms i k ≡ polynomialOf (p .n) others i k
-  unfolding polynomialOf
-  term-other i l k s = List·getD-append others (replicate (p .n) 0) 0 (i * p .n + k) (rw sized (digits-lt l s))
-
-  term-constant : (k : ℕ) → k < p .n → polynomialOf (p .n) terms (monomialCount (p .dx) - 1) k ≡ 0
-  unfolding polynomialOf
-  term-constant k s = rw (← sized) (getD-append-add others (replicate (p .n) 0) k 0) ∙ getD-replicate (p .n) k 0 0 s
+  terms-fit same = rw same (key-fits p a others zeros sized zeros-long below zeros-below)
 
   terms-value : (ux uy : Element) (k : ℕ) → k < p .n
       → value (p .n) (p .dx) (polynomialFrom p octets) ux uy k
       ≡ valueOver (monomialCount (p .dx) - 1) (p .n) (p .dx) (polynomialOf (p .n) others) ux uy k
-  terms-value ux uy k s =
-      value-cong (p .n) (p .dx) ux uy (λ i l j m. polynomialFrom-encoded p a (monomialCount (p .dx)) terms terms-length terms-below l m) k
-      ∙ value-split (p .n) (p .dx) (polynomialOf (p .n) terms) ux uy s
-      ∙ ap₂ _+_ (valueOver-cong (monomialCount (p .dx) - 1) (p .n) (p .dx) ux uy term-other k) (term-constant k s)
-      ∙ add-zero _
+  terms-value ux uy k s = rw (key-value p a others zeros sized zeros-long below zeros-below ux uy k s, zero-at k s, add-zero)
 
   front : take (length octets - p .n * qlen (p .q)) octets ≡ encoded (qlen (p .q)) others
   front =
@@ -77,11 +59,11 @@ module _ (p : Parameters) (a : Accepted p) (others : List ℕ) (sized : length o
       omega (
         arith,
         length-encoded (qlen (p .q)) others,
-        length-encoded (qlen (p .q)) terms,
-        ap (λ (x : ℕ). x * qlen (p .q)) (length-append others (replicate (p .n) 0)),
-        ap (λ (x : ℕ). x * qlen (p .q)) (length-replicate {A = ℕ} (p .n) 0),
+        length-encoded (qlen (p .q)) (others ++ zeros),
+        ap (λ (x : ℕ). x * qlen (p .q)) (length-append others zeros),
+        ap (λ (x : ℕ). x * qlen (p .q)) zeros-long,
       ) in
-      ap (take (length octets - p .n * qlen (p .q))) (encoded-append (qlen (p .q)) others (replicate (p .n) 0))
+      ap (take (length octets - p .n * qlen (p .q))) (encoded-append (qlen (p .q)) others zeros)
       ∙ take-at (encoded (qlen (p .q)) others) _ _ long
 
   pub constant-octets : {public : List ℕ} (work ux uy : List ℕ) → public ≡ octets

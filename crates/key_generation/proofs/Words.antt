@@ -38,7 +38,7 @@ use Rattle.draws.proofs.Groups.{drawsAt-within}
 use Rattle.ring.specs.Work.{part}
 use Rattle.decoding.specs.Elements.{Sizes}
 use Rattle.key_generation.specs.Keys.{Follows, termsEnd, wordsTerms, HalvesDrawn, KeyWords}
-use Rattle.key_generation.proofs.Constant.{count-suc}
+use Rattle.definitions.proofs.KeyTerms.{count-suc}
 use Rattle.key_generation.proofs.Parts.{borrowed-slice, put-zeros, put-follows, follows-slice, follows-kept, slice-kept, slice-at}
 
 pub used-room : (p : Parameters) (random : List ℕ) → secretLength p ≤ length random

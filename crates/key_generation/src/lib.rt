@@ -51,7 +51,7 @@ fn terms_end(p: Parameters) -> usize
     ensures { λ r. ⌜ (r ≡ termsEnd (setFrom p)) × (r + p .n ≤ 8 * p .n) ⌝ }
 {
     let n = p.n as usize;
-    n + n + (lengths::monomial_count(p.dx) - 1) * n
+    n + n + (monomials::monomial_count(p.dx) - 1) * n
 }
 
 // The elements of every term but the constant, from the octets after the secret's, behind the first two parts of the work words.

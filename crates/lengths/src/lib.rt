@@ -1,11 +1,12 @@
 // The lengths that a set fixes (01, "Ring, monomials, octets"): octets of each thing, words of work.
 // Nothing is refused: a caller has the set from its constructor. With both degrees at most 2 no length wraps, whatever the other four numbers
-// are. The contracts cite the definitions' bitLength, qlen, monomialCount and lengths; those of the length tests (refusal 6) keysExact and
+// are. The contracts cite the definitions' bitLength, qlen and lengths; those of the length tests (refusal 6) keysExact and
 // its kin.
+use monomials::monomial_count;
 use parameters::Parameters;
 ghost use mathlib.Core.Path.{_≡_};
 ghost use Prim.Native.Nat.{_≤_};
-ghost use Rattle.definitions.specs.Parameters.{bitLength, qlen, monomialCount, smallLength, secretLength, elementsLength, publicLength, ciphertextLength, messageLength, workLength};
+ghost use Rattle.definitions.specs.Parameters.{bitLength, qlen, smallLength, secretLength, elementsLength, publicLength, ciphertextLength, messageLength, workLength};
 ghost use Rattle.definitions.specs.Calls.{keysExact, encryptExact, addExact, decryptExact};
 ghost use Rattle.definitions.specs.Demand3.{AcceptedSet};
 ghost use Rattle.parameters.specs.Answers.{setFrom};
@@ -21,13 +22,6 @@ pub fn octets_of_coefficient(q: u32) -> usize
     ensures { λ r. ⌜ r ≡ qlen q ⌝ }
 {
     ((bit_length(q) + 7) / 8) as usize
-}
-
-pub fn monomial_count(d: u32) -> usize
-    requires { ⌜ d ≤ 4 ⌝ }
-    ensures { λ r. ⌜ r ≡ monomialCount d ⌝ }
-{
-    ((d + 1) * (d + 2) / 2) as usize
 }
 
 pub fn small_length(p: Parameters) -> usize

@@ -27,7 +27,7 @@ use Rattle.definitions.specs.Calls.{polynomialFrom, elementsFit, decodedElement
 use Rattle.definitions.proofs.Parameters.{Accepted, accepted-set, modulus-positive, key-degree-most, mask-degree-most}
 use Rattle.definitions.proofs.Sums.{tabulate-getD}
 use Rattle.definitions.proofs.Congruence.{Cong, cong-of-eq}
-use Rattle.definitions.proofs.Monomials.{monomialCount-mono}
+use Rattle.definitions.proofs.Monomials.{count-six}
 use Rattle.definitions.proofs.Octets.{coefficientsFit-at}
 use Rattle.ring.specs.Work.{part, written}
 use Rattle.ring.proofs.Borrowed.{putMid-written}
@@ -37,11 +37,6 @@ use Rattle.mask_products.specs.Products.{maskIn, sumIn, firstTerms, elem
 pub work-words : (p : Parameters) (work : List ℕ) → length work ≡ workLength p → length work ≡ 8 * p .n
 unfolding workLength
 work-words p work e = e
-
--- a list of at most degree 2 has at most six monomials
-pub count-six : (d : ℕ) → d ≤ 2 → monomialCount d ≤ 6
-unfolding monomialCount
-count-six d l = subst (λ (x : ℕ). monomialCount d ≤ monomialCount x) (let two : d + (2 - d) ≡ 2 = omega arith in two) (monomialCount-mono d (2 - d))
 
 pub part-room : (n j most : ℕ) → j < most → j * n + n ≤ most * n
 part-room n j most l = let h : suc j * n ≤ most * n = mul-le-mul-right n l in omega arith

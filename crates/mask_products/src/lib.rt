@@ -71,7 +71,7 @@ fn add_element(p: Parameters, public: &[u8], i: usize, m: usize, work: &mut [u32
     requires { ⌜ Adding (setFrom p) m (now public) (now work) × (i < monomialCount (p .dx)) ⌝ }
     ensures { λ _. ⌜ SumGains (setFrom p) (elementTerms (setFrom p) (polynomialFrom (setFrom p) (before public)) m i) (before work) (after work) ⌝ }
 {
-    let count = lengths::monomial_count(p.dr);
+    let count = monomials::monomial_count(p.dr);
     let mut j = 0;
     while j < count {
         add_pair(p, public, i, j, m, work);
@@ -85,7 +85,7 @@ pub fn product_at(p: Parameters, public: &[u8], m: usize, work: &mut [u32])
     ensures { λ _. ⌜ SumIs (setFrom p) (productTerm (setFrom p) (polynomialFrom (setFrom p) (before public)) m) (before work) (after work) ⌝ }
 {
     clear_sum(p, work);
-    let count = lengths::monomial_count(p.dx);
+    let count = monomials::monomial_count(p.dx);
     let mut i = 0;
     while i < count {
         add_element(p, public, i, m, work);

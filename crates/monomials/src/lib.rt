@@ -1,6 +1,6 @@
 // The order of the monomials (01, "Ring, monomials, octets", second paragraph): by falling total degree, then by falling power of x.
 // The list of degree 4 is a table of exponent pairs, and the list of a lower degree is its tail. How many a list has is told by
-// `lengths::monomial_count`. Contracts cite the definitions' `monomialCount`, and `monomialAt` through specs/Pairs.antt. Nothing is
+// `monomials::monomial_count`. Contracts cite the definitions' `monomialCount`, and `monomialAt` through specs/Pairs.antt. Nothing is
 // refused: callers keep the degree to 4 and the place to the list.
 ghost use mathlib.Core.Path.{_≡_};
 ghost use Prim.Native.Nat.{_+_, _≤_, _<_};
@@ -33,6 +33,14 @@ const PAIRS: [Exponents; 15] = [
     Exponents { x: 0, y: 1 },
     Exponents { x: 0, y: 0 },
 ];
+
+// How many monomials have total degree at most d.
+pub fn monomial_count(d: u32) -> usize
+    requires { ⌜ d ≤ 4 ⌝ }
+    ensures { λ r. ⌜ r ≡ monomialCount d ⌝ }
+{
+    ((d + 1) * (d + 2) / 2) as usize
+}
 
 // Where the list of each degree starts in it: 15 less the number of its monomials.
 const START: [u8; 5] = [14, 12, 9, 5, 0];

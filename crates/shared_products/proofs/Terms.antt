@@ -23,7 +23,8 @@ use Rattle.definitions.proofs.Ring.{conv-cong}
 use Rattle.ring.specs.Work.{part, written}
 use Rattle.ring.proofs.Work.{Wrote, wrote}
 use Rattle.mask_products.specs.Products.{maskIn, sumIn, pairTerm, firstTerms, elementTerms, productTerm, KeyAndMask, SumIs, SumGains}
-use Rattle.mask_products.proofs.Sums.{work-words, count-six, part-room, sum-cong, sum-then, sum-inRing, gains-none, gains-by, terms-product, key-below}
+use Rattle.definitions.proofs.Monomials.{count-six}
+use Rattle.mask_products.proofs.Sums.{work-words, part-room, sum-cong, sum-then, sum-inRing, gains-none, gains-by, terms-product, key-below}
 use Rattle.shared_products.specs.Sharing.{keyIn, square, pairSum, elementPrepared, Prepared, PreparedKey, Shared, SharedAdding, bothTerms, rowOfPairs}
 use Rattle.shared_products.proofs.Pairs.{sum-square, sameMonomial-comm, cong-pair}
 

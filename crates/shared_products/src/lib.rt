@@ -25,7 +25,7 @@ fn diagonal_at(p: Parameters, i: usize) -> usize
     requires { ⌜ AcceptedSet (setFrom p) × (i < 6) ⌝ }
     ensures { λ r. ⌜ r ≡ (monomialCount (p .dx) + i) * p .n ⌝ }
 {
-    (lengths::monomial_count(p.dx) + i) * (p.n as usize)
+    (monomials::monomial_count(p.dx) + i) * (p.n as usize)
 }
 
 // One element of the key and its product with the mask's at the same place, into the list.
@@ -49,7 +49,7 @@ pub fn prepare(p: Parameters, public: &[u8], work: &mut [u32], list: &mut [u32])
     requires { ⌜ KeyAndMask (setFrom p) (now public) (now work) × (p .dx ≡ p .dr) × (2 * (monomialCount (p .dx) * p .n) ≤ length (now list)) ⌝ }
     ensures { λ _. ⌜ PreparedKey (setFrom p) (before public) (before work) (after list) × (take (6 * p .n) (after work) ≡ take (6 * p .n) (before work)) ⌝ }
 {
-    let count = lengths::monomial_count(p.dx);
+    let count = monomials::monomial_count(p.dx);
     let mut i = 0;
     while i < count {
         prepare_element(p, public, i, work, list);
@@ -130,7 +130,7 @@ pub fn product_at(p: Parameters, list: &[u32], m: usize, work: &mut [u32])
     ensures { λ _. ⌜ SumIs (setFrom p) (productTerm (setFrom p) (keyIn (setFrom p) (before list)) m) (before work) (after work) ⌝ }
 {
     mask_products::clear_sum(p, work);
-    let count = lengths::monomial_count(p.dx);
+    let count = monomials::monomial_count(p.dx);
     let mut i = 0;
     while i < count {
         add_row(p, list, i, m, work);

@@ -19,8 +19,8 @@ use Rattle.definitions.specs.Monomials.{Polynomial, monomialAt, monomials, ofDe
 use Rattle.definitions.proofs.Sums.{sum-cong, sum-append, every-true, every-at}
 use Rattle.definitions.proofs.Congruence.{cong-trans, cong-of-eq, cong-mod, cong-add}
 use Rattle.definitions.proofs.Ring.{conv-comm, conv-assoc, conv-sum-left, conv-cong, conv-cong-modulo, conv-zero-left, conv-one-right}
-use Rattle.definitions.proofs.Monomials.{monomialCount-suc, monomialCount-pos, monomialAt-first, monomials-degree, monomials-apart}
-use Rattle.definitions.proofs.Rows.{monomialAt-tail, monomialCount-mono-le, placeOf, sum-rows}
+use Rattle.definitions.proofs.Monomials.{monomialCount-suc, monomialCount-pos, monomialCount-le, monomialAt-first, monomials-degree, monomials-apart}
+use Rattle.definitions.proofs.Rows.{monomialAt-tail, placeOf, sum-rows}
 use Rattle.values.specs.Horner.{horner, stepped, starts, termPlace, rowOf, nested, rowFits}
 
 -- ---- one row
@@ -116,7 +116,7 @@ place-term d i l =
     let x : ℕ = monomialAt d i .x in
     let y : ℕ = monomialAt d i .y in
     let low : x + y ≤ d = monomials-degree d i in
-    let inside : placeOf d x y < monomialCount d = omega (arith, monomialCount-mono-le (x + y) d low, degree-lt-count (x + y)) in
+    let inside : placeOf d x y < monomialCount d = omega (arith, monomialCount-le (x + y) d low, degree-lt-count (x + y)) in
     place-row d x y low ∙ sym (monomials-apart d l inside (sym (monomial-place d x y low)))
 
 module _ (d : ℕ) (fits : ℕ → Bool) where

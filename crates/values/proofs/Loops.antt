@@ -21,7 +21,7 @@ use Rattle.definitions.specs.Octets.{decoded, coefficientsFit}
 use Rattle.definitions.specs.Calls.{polynomialIn}
 use Rattle.definitions.proofs.Sums.{length-tabulate, getD-tabulate}
 use Rattle.definitions.proofs.Octets.{coefficientsFit-below}
-use Rattle.definitions.proofs.Rows.{monomialCount-mono-le}
+use Rattle.definitions.proofs.Monomials.{monomialCount-le}
 use Rattle.ring.specs.Work.{part, written, productAdded}
 use Rattle.ring.proofs.Work.{part-written, getD-written-before, length-written-tabulate}
 use Rattle.decoding.specs.Elements.{Sizes}
@@ -34,7 +34,7 @@ sizes-kept s e = record { places = s .places; most = s .most; octets-least = s .
 
 pub count-most : (d : ℕ) → d ≤ 8 → monomialCount d ≤ 45
 unfolding monomialCount
-count-most d l = monomialCount-mono-le d 8 l
+count-most d l = monomialCount-le d 8 l
 
 pub in-octets : (n qlen element count : ℕ) → element < count → element * n * qlen + n * qlen ≤ count * n * qlen
 in-octets n qlen element count l =

@@ -1,8 +1,8 @@
 // The zero test (01, "Draws from lent random octets": zero test): whether the key's value at a secret is 0.
 // It refuses a length that is not the exact one (6), a secret with an unused bit set (7) and a coefficient of the key that is not below q
 // (8); a refusal leaves the answer as it was. The set is accepted. The work words are zero after every ending past the length test. The
-// contract is the definitions' Tests.
-ghost use Rattle.definitions.specs.Contracts.{Tests};
+// contract is the definitions' TellsZero.
+ghost use Rattle.definitions.specs.Contracts.{TellsZero};
 ghost use Rattle.definitions.specs.Demand3.{AcceptedSet};
 ghost use Rattle.parameters.specs.Answers.{setFrom};
 ghost use Rattle.secrets.specs.Secrets.{ValueInputs};
@@ -28,7 +28,7 @@ fn tested(p: Parameters, secret: &[u8], public: &[u8], work: &mut [u32], zero: &
 
 pub fn is_zero(p: Parameters, secret: &[u8], public: &[u8], work: &mut [u32], zero: &mut u32) -> u32
     requires { ⌜ AcceptedSet (setFrom p) ⌝ }
-    ensures { λ r. ⌜ Tests (setFrom p) secret public work zero r ⌝ }
+    ensures { λ r. ⌜ TellsZero (setFrom p) secret public work zero r ⌝ }
 {
     if !lengths::keys_exact(p, secret.len(), public.len(), work.len()) {
         return refusals::LENGTH;

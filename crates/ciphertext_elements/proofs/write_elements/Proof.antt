@@ -5,7 +5,8 @@ use native.Mathlib.Nat.{mul-le-mul}
 use native.Mathlib.Omega.{arith}
 use borrow.Author.Needs.{needs}
 use Rattle.definitions.proofs.Parameters.{key-degree-most}
-use Rattle.mask_products.proofs.Sums.{count-six, inputs-set}
+use Rattle.definitions.proofs.Monomials.{count-six}
+use Rattle.mask_products.proofs.Sums.{inputs-set}
 use Rattle.ciphertext_elements.proofs.write_elements.Statement.{statement}
 use Rattle.ciphertext_elements.proofs.write_elements.Tie as tie
 

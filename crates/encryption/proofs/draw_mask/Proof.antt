@@ -8,7 +8,8 @@ use borrow.Author.Needs.{needs}
 use lib.ListN.{length}
 use Rattle.definitions.proofs.Parameters.{accepted-set, modulus-positive, mask-degree-most}
 use Rattle.parameters.specs.Answers.{setFrom}
-use Rattle.mask_products.proofs.Sums.{work-words, count-six}
+use Rattle.definitions.proofs.Monomials.{count-six}
+use Rattle.mask_products.proofs.Sums.{work-words}
 use Rattle.encryption.proofs.Mask.{mask-lent}
 use Rattle.encryption.proofs.draw_mask.Statement.{statement}
 use Rattle.encryption.proofs.draw_mask.Tie as tie

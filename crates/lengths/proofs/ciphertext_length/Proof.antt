@@ -6,14 +6,14 @@ use mathlib.Core.Path.{ap, _∙_}
 use Prim.Native.Nat.{_+_}
 use Rattle.definitions.specs.Parameters.{elementsLength, ciphertextLength}
 use Rattle.parameters.specs.Answers.{setFrom}
-use Rattle.lengths.proofs.Bounds.{monomialCount-le}
+use Rattle.definitions.proofs.Monomials.{count-fifteen}
 use Rattle.lengths.proofs.ciphertext_length.Statement.{statement}
 use Rattle.lengths.proofs.ciphertext_length.Tie as tie
 
 elements-length-requires : tie.Need-elements-length-requires
 elements-length-requires c κs =
     let p = c .before .before .args .p in
-    omega (arith, monomialCount-le (p .dx + p .dr) (omega arith))
+    omega (arith, count-fifteen (p .dx + p .dr) (omega arith))
 
 returns : tie.Need-returns
 unfolding ciphertextLength

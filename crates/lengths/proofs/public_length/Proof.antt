@@ -5,12 +5,12 @@ use native.Mathlib.Omega.{arith}
 use mathlib.Core.Path.{ap, _∙_}
 use Rattle.definitions.specs.Parameters.{elementsLength, publicLength}
 use Rattle.parameters.specs.Answers.{setFrom}
-use Rattle.lengths.proofs.Bounds.{monomialCount-le}
+use Rattle.definitions.proofs.Monomials.{count-fifteen}
 use Rattle.lengths.proofs.public_length.Statement.{statement}
 use Rattle.lengths.proofs.public_length.Tie as tie
 
 elements-length-requires : tie.Need-elements-length-requires
-elements-length-requires c κs = omega (arith, monomialCount-le (c .before .args .p .dx) (omega arith))
+elements-length-requires c κs = omega (arith, count-fifteen (c .before .args .p .dx) (omega arith))
 
 returns : tie.Need-returns
 unfolding publicLength

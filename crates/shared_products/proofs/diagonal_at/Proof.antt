@@ -6,7 +6,7 @@ use native.Mathlib.Omega.{arith}
 use mathlib.Core.Path.{_≡_, ap}
 use borrow.Author.Needs.{needs}
 use Rattle.definitions.proofs.Parameters.{accepted-set, key-degree-most}
-use Rattle.mask_products.proofs.Sums.{count-six}
+use Rattle.definitions.proofs.Monomials.{count-six}
 use Rattle.shared_products.proofs.diagonal_at.Statement.{statement}
 use Rattle.shared_products.proofs.diagonal_at.Tie as tie
 

@@ -6,9 +6,9 @@ use mathlib.Core.Path.{refl}
 use Prim.Native.Nat.{_+_, _≤_}
 use native.Mathlib.Nat.{mul-le-mul}
 use Rattle.definitions.specs.Parameters.{monomialCount}
-use Rattle.lengths.proofs.Bounds.{monomialCount-le}
-use Rattle.lengths.proofs.monomial_count.Statement.{statement}
-use Rattle.lengths.proofs.monomial_count.Tie as tie
+use Rattle.definitions.proofs.Monomials.{count-fifteen}
+use Rattle.monomials.proofs.monomial_count.Statement.{statement}
+use Rattle.monomials.proofs.monomial_count.Tie as tie
 
 mul-result : tie.Need-mul-result
 mul-result c =
@@ -18,7 +18,7 @@ mul-result c =
 
 cast-result : tie.Need-cast-result
 unfolding monomialCount
-cast-result c = omega (arith, monomialCount-le (c .args .d) (c .pre))
+cast-result c = omega (arith, count-fifteen (c .args .d) (c .pre))
 
 returns : tie.Need-returns
 unfolding monomialCount

@@ -1,2 +1,0 @@
--- Laws that the proofs of this crate and of the crates above it cite.
-pub mod Bounds
