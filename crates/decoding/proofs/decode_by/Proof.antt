@@ -1,7 +1,7 @@
 -- `decoding::decode_by` is right because each turn stores the coefficient of its place behind those that are stored, and the last ones follow.
 -- Assumes nothing.
 use Prim.Native.Nat.{ℕ, _+_, _-_, _*_, _≤_}
-use mathlib.Core.Path.{refl, sym}
+use mathlib.Core.Path.{refl, sym, ap, _∙_}
 use native.Mathlib.Nat.{le-of-eq}
 use native.Mathlib.Omega.{arith}
 use lib.ListN.{length}
@@ -29,21 +29,28 @@ room : (s : tie.Start Inv-loop μ-loop) (m : ℕ) → m + 4 ≤ length (s .args 
 room s m inside = wide-room m (s .args .qlen) 4 inside (omega arith) (le-of-eq (sym (s .pre .2)))
 
 mul-wide-number : tie.Need-mul-wide-number Inv-loop μ-loop
-mul-wide-number c = record { fits = omega (arith, room (search needs) (c .before .loop .m) (omega arith)) }
+mul-wide-number c = record { fits = omega (arith, room (c .before .before .before .before) (c .before .loop .m) (omega arith)) }
 
 wide-number-requires : tie.Need-wide-number-requires Inv-loop μ-loop
-wide-number-requires c κs = (search needs, search needs, room (search needs) (c .before .loop .m) (omega arith))
+wide-number-requires c κs =
+    let s = c .before .before .before .before in
+    (s .pre .0, s .pre .1, room s (c .before .loop .m) (omega arith))
 
 loop-again : tie.Need-loop-again Inv-loop μ-loop
 loop-again c =
-    let at : tie.At-loop Inv-loop μ-loop = search needs in
+    let at = c .before .before in
     decode-step _ _ (at .loop .words) (at .loop .m) (omega arith) (c .wide-number .ensures) (at .loop .inv)
 
 decode-rest-requires : tie.Need-decode-rest-requires Inv-loop μ-loop
-decode-rest-requires c κs = ((omega arith, omega arith, cc), search needs)
+decode-rest-requires c κs =
+    let s = c .before .before .before .before .before in
+    let i = c .before .before .loop .inv in
+    ((s .pre .0, s .pre .1, s .pre .2 ∙ ap (λ (k : ℕ). k * s .args .qlen) (sym (i .1))), (i .0, i .2))
 
 returns : tie.Need-returns Inv-loop μ-loop
-returns c = cc
+returns c =
+    let s = c .before .before .before .before .before .before .before .before in
+    c .before .before .decode-rest .ensures ∙ ap (λ (k : ℕ). decoded (s .args .qlen) k (s .args .octets .now)) (c .before .before .before .before .before .loop .inv .1)
 
 pub decode-by-spec : {M : Type 1} → statement M
 decode-by-spec =

@@ -28,21 +28,23 @@ room : (s : tie.Start Inv-loop μ-loop) (m : ℕ) → m < length (s .args .words
 room s m inside = place-end m (s .args .qlen) inside (le-of-eq (sym (s .pre .0 .2)))
 
 mul-number : tie.Need-mul-number Inv-loop μ-loop
-mul-number c = record { fits = omega (arith, room (search needs) (c .before .loop .m) (omega arith)) }
+mul-number c = record { fits = omega (arith, room (c .before .before .before .before) (c .before .loop .m) (omega arith)) }
 
 number-requires : tie.Need-number-requires Inv-loop μ-loop
-number-requires c κs = (omega arith, room (search needs) (c .before .loop .m) (omega arith))
+number-requires c κs =
+    let s = c .before .before .before .before in
+    (s .pre .0 .1, room s (c .before .loop .m) (omega arith))
 
 loop-again : tie.Need-loop-again Inv-loop μ-loop
 loop-again c =
-    let at : tie.At-loop Inv-loop μ-loop = search needs in
+    let at = c .before .before in
     decode-step _ _ (at .loop .words) (at .loop .m) (omega arith) (c .number .ensures) (at .loop .inv)
 
 returns : tie.Need-returns Inv-loop μ-loop
 unfolding decoded
 returns c =
-    let s : tie.Start Inv-loop μ-loop = search needs in
-    let at : tie.At-loop Inv-loop μ-loop = search needs in
+    let s = c .before .before .before .before in
+    let at = c .before in
     let end : at .loop .m ≡ length (s .args .words .now) = omega arith in
     rw (← end) (fill-end (coefficientAt (s .args .qlen) (s .args .octets .now)) (at .loop .words) (at .loop .m) (omega arith) (at .loop .inv .2))
 

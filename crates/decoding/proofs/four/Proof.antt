@@ -9,7 +9,9 @@ use Rattle.decoding.proofs.four.Tie as tie
 
 returns : tie.Need-returns
 unfolding sum
-returns c = let s : tie.Start = search needs in omega (arith, numberOf-take 3 (s .args .at) (s .args .octets .now) (omega arith))
+returns c =
+    let s = c .before .before .before .before .before .before .before .before .before in
+    omega (arith, numberOf-take 3 (s .args .at) (s .args .octets .now) (s .pre))
 
 pub four-spec : {M : Type 1} → statement M
 four-spec =

@@ -1,6 +1,6 @@
 -- `encoding::encode_by` is right because each turn stores the octets of two words behind those of the words before, and the last ones follow.
 -- Assumes nothing.
-use Prim.Native.Nat.{_+_, _-_, _*_, _≤_}
+use Prim.Native.Nat.{_+_, _-_, _*_, _≤_, zero-le}
 use mathlib.Core.Path.{refl, sym, _∙_}
 use native.Mathlib.Nat.{le-of-eq, zero-mul}
 use native.Mathlib.Omega.{arith}
@@ -21,10 +21,10 @@ abbrev μ-loop : tie.MeasureT-loop
 
 loop-holds : tie.Need-loop-holds Inv-loop μ-loop
 unfolding encoded joined
-loop-holds c = let s : tie.Start Inv-loop μ-loop = search needs in (omega arith, refl, rw (zero-mul (s .args .qlen)))
+loop-holds c = (zero-le, refl, rw (zero-mul (c .before .before .args .qlen)))
 
 abbrev start : tie.At-loop Inv-loop μ-loop → tie.Start Inv-loop μ-loop
-start c = search needs
+start c = c .before .before .before
 
 -- eight octets have room
 eight : (c : tie.In-loop Inv-loop μ-loop) → c .before .loop .m * start (c .before) .args .qlen + 8 ≤ length (c .before .loop .octets)
@@ -34,26 +34,32 @@ eight c =
     wide-room (c .before .loop .m) (s .args .qlen) 8 more (omega arith) (le-of-eq (sym (c .before .loop .inv .1 ∙ s .pre .2)))
 
 mul-store-eight : tie.Need-mul-store-eight Inv-loop μ-loop
-mul-store-eight c = record { fits = omega (arith, eight (search needs)) }
+mul-store-eight c = record { fits = omega (arith, eight (c .before)) }
 
 store-eight-requires : tie.Need-store-eight-requires Inv-loop μ-loop
-store-eight-requires c κs = eight (search needs)
+store-eight-requires c κs = eight (c .before .before)
 
 loop-again : tie.Need-loop-again Inv-loop μ-loop
 loop-again c =
-    let turn : tie.In-loop Inv-loop μ-loop = search needs in
-    let put : tie.After-store-eight Inv-loop μ-loop = search needs in
-    let l = turn .before .loop in (
-      omega arith,
-      omega arith,
-      encode-eight (l .m) _ _ (l .octets) (omega arith) (omega arith) (eight turn) (put .before .pair .ensures) (put .store-eight .ensures) (l .inv .2),
+    let put = c .before .before in
+    let turn = put .before .before .before in
+    let l = turn .before .loop in
+    let s = start (turn .before) in
+    let inside : l .m + 2 ≤ length (s .args .words .now) = omega arith in (
+      inside,
+      put .store-eight .kept .0 ∙ l .inv .1,
+      encode-eight (l .m) (s .args .qlen) (s .args .words .now) (l .octets) inside (s .pre .1) (eight turn)
+          (put .before .pair .ensures) (put .store-eight .ensures) (l .inv .2),
     )
 
 encode-rest-requires : tie.Need-encode-rest-requires Inv-loop μ-loop
-encode-rest-requires c κs = ((omega arith, omega arith, cc), search needs)
+encode-rest-requires c κs =
+    let at = c .before .before in
+    let p = start at .pre in
+    ((p .0, p .1, at .loop .inv .1 ∙ p .2), (at .loop .inv .0, at .loop .inv .2))
 
 returns : tie.Need-returns Inv-loop μ-loop
-returns c = search needs
+returns c = c .before .before .encode-rest .ensures
 
 pub encode-by-spec : {M : Type 1} → statement M
 encode-by-spec =

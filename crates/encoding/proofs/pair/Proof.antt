@@ -10,7 +10,7 @@ use Rattle.encoding.proofs.pair.Statement.{statement}
 use Rattle.encoding.proofs.pair.Tie as tie
 
 abbrev start : tie.After-shared-slice-known2 → tie.Start
-start c = search needs
+start c = c .before .before
 
 mul-result-3 : tie.Need-mul-result-3
 mul-result-3 c = record { fits = pair-second-fits _ (omega arith) 0 _ (c .shared-slice-known2 .given _ .fits) }

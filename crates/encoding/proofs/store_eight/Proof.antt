@@ -1,7 +1,6 @@
 -- `encoding::store_eight` is right because eight octets are the four of the low part and the four of the high part.
 -- Assumes nothing.
 use mathlib.Core.Path.{_∙_}
-use native.Mathlib.Omega.{arith}
 use borrow.Author.Needs.{needs}
 use Rattle.encoding.proofs.Laws.{stored-eight}
 use Rattle.encoding.proofs.store_eight.Statement.{statement}
@@ -9,10 +8,10 @@ use Rattle.encoding.proofs.store_eight.Tie as tie
 
 returns : tie.Need-returns
 returns c =
-    let s : tie.Start = search needs in
-    let low : tie.After-store = search needs in
-    let high : tie.After-store2 = search needs in
-    high .store2 .ensures ∙ stored-eight (s .args .at) (s .args .x) (s .args .octets .now) (omega arith) (low .store .ensures)
+    let high = c .before .before in
+    let low = high .before .before .before .before in
+    let s = low .before .before .before in
+    high .store2 .ensures ∙ stored-eight (s .args .at) (s .args .x) (s .args .octets .now) (s .pre) (low .store .ensures)
 
 pub store-eight-spec : {M : Type 1} → statement M
 store-eight-spec =

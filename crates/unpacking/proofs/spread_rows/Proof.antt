@@ -24,10 +24,10 @@ abbrev μ-loop : tie.MeasureT-loop
 
 loop-holds : tie.Need-loop-holds Inv-loop μ-loop
 unfolding rowsOf
-loop-holds c = let s : tie.Start Inv-loop μ-loop = search needs in (omega arith, refl, (rw (add-zero (s .args .at)) (sym (append-nil _)), refl))
+loop-holds c = let s = c .before .before .before .before in (omega arith, refl, (rw (add-zero (s .args .at)) (sym (append-nil _)), refl))
 
 abbrev start : tie.In-loop Inv-loop μ-loop → tie.Start Inv-loop μ-loop
-start c = search needs
+start c = c .before .before .before .before .before .before
 
 narrow : (c : tie.In-loop Inv-loop μ-loop) → c .before .loop .j * 4 * start c .args .b < 32
 narrow c = shift-below (c .before .loop .j * 4) (start c .args .rows * 4) (start c .args .b) (omega arith) (start c .pre .3) (omega arith)
@@ -40,16 +40,16 @@ positive s = rw (modulus s) (pow-pos (s .args .b))
 
 loop-again : tie.Need-loop-again Inv-loop μ-loop
 loop-again c =
-    let a = start (search needs) .args in
+    let a = start c .args in
     let l = c .before .loop in (
       omega arith,
       simp length-set (omega arith),
-      row-step (a .words .now) (l .words) (a .at) (a .b) (l .j) (modulus (search needs)) (omega arith) (omega arith) refl (l .inv .2),
+      row-step (a .words .now) (l .words) (a .at) (a .b) (l .j) (modulus (start c)) (omega arith) (omega arith) refl (l .inv .2),
     )
 
 returns : tie.Need-returns Inv-loop μ-loop
 returns c =
-    let s : tie.Start Inv-loop μ-loop = search needs in
+    let s = c .before .before .before .before .before .before in
     let end : s .args .rows ≡ c .before .loop .j = omega arith in
     rw end (rows-end (s .args .words .now) _ _ (s .args .at) (s .args .at + c .before .loop .j * 4) (c .before .loop .inv .2))
 
@@ -58,12 +58,12 @@ spread-rows-spec =
     tie.close
     (tie.spec Inv-loop μ-loop (λ c. search needs) (λ c. search needs) (λ c. search needs) (λ c. search needs) (λ c. search needs) (λ c. search needs)
     (λ c. search needs) (λ c. search needs) (λ c. search needs) (λ c. search needs) (λ c. search needs) (λ c. search needs) (λ c. search needs) loop-holds
-    (λ c. search needs) (λ c. omega (arith, narrow (search needs))) (λ c. search needs) (λ c. search needs)
-    (λ c. omega (arith, narrow (search needs))) (λ c. narrow (search needs)) (λ c. positive (search needs)) (λ c. search needs) (λ c. search needs)
-    (λ c. omega (arith, narrow (search needs))) (λ c. narrow (search needs)) (λ c. positive (search needs)) (λ c. search needs) (λ c. search needs)
+    (λ c. search needs) (λ c. omega (arith, narrow c)) (λ c. search needs) (λ c. search needs)
+    (λ c. omega (arith, narrow c)) (λ c. narrow c) (λ c. positive (start c)) (λ c. search needs) (λ c. search needs)
+    (λ c. omega (arith, narrow c)) (λ c. narrow c) (λ c. positive (start c)) (λ c. search needs) (λ c. search needs)
     (λ c. simp length-set (omega arith))
-    (λ c. omega (arith, narrow (search needs))) (λ c. narrow (search needs)) (λ c. positive (search needs)) (λ c. search needs) (λ c. search needs)
+    (λ c. omega (arith, narrow c)) (λ c. narrow c) (λ c. positive (start c)) (λ c. search needs) (λ c. search needs)
     (λ c. simp length-set (omega arith))
-    (λ c. omega (arith, narrow (search needs))) (λ c. narrow (search needs)) (λ c. positive (search needs)) (λ c. search needs) (λ c. search needs)
+    (λ c. omega (arith, narrow c)) (λ c. narrow c) (λ c. positive (start c)) (λ c. search needs) (λ c. search needs)
     (λ c. simp length-set (omega arith))
     (λ c. search needs) (λ c. search needs) loop-again (λ c. search needs) returns)
