@@ -2,7 +2,6 @@
 -- all others the rows hold nothing.
 -- Assumes nothing.
 use native.Mathlib.Omega.{arith}
-use borrow.Author.Needs.{needs}
 use Prim.Native.Nat.{_+_, _-_, _%_, _/_, _<_}
 use mathlib.Core.Path.{_≡_, refl}
 use Rattle.ring.specs.Work.{part}
@@ -91,7 +90,7 @@ returns c =
 pub add-cut-rows-spec : {M : Type 1} → statement M
 add-cut-rows-spec =
     tie.close
-    (tie.spec Inv-loop μ-loop (λ c κs. search needs) (λ c. search needs) (λ c κs. search needs) (λ c. search needs) loop-holds (λ c. search needs)
-    row-sum-requires row-sum-requires-2 (λ c. search needs) (λ c. search needs) (λ c. search needs) add-low-2 add-low-3 (λ c. search needs)
-    (λ c. search needs) (λ c. search needs) (λ c. search needs) (λ c. search needs) (λ c. search needs) add-high-2 add-high-3 (λ c. search needs)
-    (λ c. search needs) (λ c. search needs) (λ c. search needs) (λ c. search needs) loop-again (λ c. search needs) (λ c. search needs) returns)
+    (tie.spec Inv-loop μ-loop (λ c κs. omega arith) (λ c. omega arith) (λ c κs. omega arith) (λ c. omega arith) loop-holds (λ c. omega arith)
+    row-sum-requires row-sum-requires-2 (λ c. omega arith) (λ c. omega arith) (λ c. omega arith) add-low-2 add-low-3 (λ c. omega arith)
+    (λ c. omega arith) (λ c. omega arith) (λ c. omega arith) (λ c. omega arith) (λ c. omega arith) add-high-2 add-high-3 (λ c. omega arith)
+    (λ c. omega arith) (λ c. omega arith) (λ c. omega arith) (λ c. omega arith) loop-again (λ c. omega arith) (λ c. omega arith) returns)

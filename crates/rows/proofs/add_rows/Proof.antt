@@ -1,7 +1,6 @@
 -- `rows::add_rows` meets its contract: at each place that the eight rows reach, their two sums are added; at all others the rows hold nothing.
 -- Assumes nothing.
 use native.Mathlib.Omega.{arith}
-use borrow.Author.Needs.{needs}
 use Prim.Native.Nat.{_+_, _-_, _<_}
 use mathlib.Core.Path.{_≡_, refl}
 use Rattle.ring.specs.Work.{part}
@@ -78,6 +77,6 @@ returns c =
 pub add-rows-spec : {M : Type 1} → statement M
 add-rows-spec =
     tie.close
-    (tie.spec Inv-loop μ-loop (λ c κs. search needs) (λ c. search needs) (λ c κs. search needs) (λ c. search needs) loop-holds (λ c. search needs)
-    (λ c. search needs) (λ c. search needs) (λ c. search needs) row-sum-requires add-low-2 row-sum-requires-2 add-low-3 (λ c. search needs)
-    (λ c. search needs) (λ c. search needs) (λ c. search needs) (λ c. search needs) loop-again (λ c. search needs) returns)
+    (tie.spec Inv-loop μ-loop (λ c κs. omega arith) (λ c. omega arith) (λ c κs. omega arith) (λ c. omega arith) loop-holds (λ c. omega arith)
+    (λ c. omega arith) (λ c. omega arith) (λ c. omega arith) row-sum-requires add-low-2 row-sum-requires-2 add-low-3 (λ c. omega arith)
+    (λ c. omega arith) (λ c. omega arith) (λ c. omega arith) (λ c. omega arith) loop-again (λ c. omega arith) returns)

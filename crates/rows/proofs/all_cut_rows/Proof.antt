@@ -1,7 +1,6 @@
 -- `rows::all_cut_rows` meets its contract: after i rows the halves hold the sum of the first i rows; rows past the last hold nothing.
 -- Assumes nothing.
 use native.Mathlib.Omega.{arith}
-use borrow.Author.Needs.{needs}
 use Prim.Native.Nat.{_+_, _-_}
 use mathlib.Core.Path.{_≡_}
 use lib.ListN.{length}
@@ -50,5 +49,5 @@ returns c = cut-rows-all (c .before .loop .inv .2) (c .before .before .before .b
 pub all-cut-rows-spec : {M : Type 1} → statement M
 all-cut-rows-spec =
     tie.close
-    (tie.spec Inv-loop μ-loop loop-holds add-cut-rows-requires (λ c. search needs) (λ c. search needs) loop-again (λ c. search needs)
-    (λ c. search needs) returns)
+    (tie.spec Inv-loop μ-loop loop-holds add-cut-rows-requires (λ c. omega arith) (λ c. omega arith) loop-again (λ c. omega arith)
+    (λ c. omega arith) returns)

@@ -1,7 +1,6 @@
 -- `rows::all_rows` meets its contract: after i rows each place holds the sum of the first i rows; rows past the last hold nothing.
 -- Assumes nothing.
 use native.Mathlib.Omega.{arith}
-use borrow.Author.Needs.{needs}
 use Prim.Native.Nat.{_+_, _-_}
 use mathlib.Core.Path.{_≡_, ap, _∙_}
 use mathlib.Core.Logic.{⊎-elim}
@@ -49,5 +48,5 @@ returns c = rows-all (c .before .loop .inv .1) (omega arith)
 pub all-rows-spec : {M : Type 1} → statement M
 all-rows-spec =
     tie.close
-    (tie.spec Inv-loop μ-loop loop-holds add-if1 add-rows-requires add-last-rows-requires (λ c. search needs) (λ c. search needs) loop-again
-    (λ c. search needs) returns)
+    (tie.spec Inv-loop μ-loop loop-holds add-if1 add-rows-requires add-last-rows-requires (λ c. omega arith) (λ c. omega arith) loop-again
+    (λ c. omega arith) returns)

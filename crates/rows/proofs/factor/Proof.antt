@@ -1,6 +1,6 @@
 -- `rows::factor` meets its contract: it tests what `padded` tests.
 -- Assumes nothing.
-use borrow.Author.Needs.{needs}
+use native.Mathlib.Omega.{arith}
 use borrow.Author.Tests.{lt-ltb, le-ltb}
 use Rattle.rows.specs.Rows.{padded}
 use Rattle.rows.proofs.factor.Statement.{statement}
@@ -15,4 +15,4 @@ unfolding padded
 returns-2 c = simp (le-ltb _ _ (c .if1 .left))
 
 pub factor-spec : {M : Type 1} → statement M
-factor-spec = tie.close (tie.spec (λ c. search needs) (λ c. search needs) (λ c. search needs) returns returns-2)
+factor-spec = tie.close (tie.spec (λ c. omega arith) (λ c. omega arith) (λ c. omega arith) returns returns-2)

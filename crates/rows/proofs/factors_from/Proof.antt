@@ -1,6 +1,6 @@
 -- `rows::factors_from` meets its contract: each factor is `factor` at its row.
 -- Assumes nothing.
-use borrow.Author.Needs.{needs}
+use native.Mathlib.Omega.{arith}
 use Rattle.rows.specs.Rows.{factorsFrom}
 use Rattle.rows.proofs.factors_from.Statement.{statement}
 use Rattle.rows.proofs.factors_from.Tie as tie
@@ -13,11 +13,11 @@ pub factors-from-spec : {M : Type 1} → statement M
 factors-from-spec =
     tie.close
     (tie.spec
-    (λ c κs. search needs)
-    (λ c. search needs)
-    (λ c κs. search needs)
-    (λ c. search needs)
-    (λ c κs. search needs)
-    (λ c. search needs)
-    (λ c κs. search needs)
+    (λ c κs. omega arith)
+    (λ c. omega arith)
+    (λ c κs. omega arith)
+    (λ c. omega arith)
+    (λ c κs. omega arith)
+    (λ c. omega arith)
+    (λ c κs. omega arith)
     returns)

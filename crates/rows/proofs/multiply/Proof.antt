@@ -1,5 +1,6 @@
 -- `rows::multiply` meets its contract, since both ways to sum the rows do.
 -- Assumes nothing.
+use native.Mathlib.Omega.{arith}
 use borrow.Author.Needs.{needs}
 use native.Mathlib.Nat.{lt-of-lt-of-le, lt-of-le-of-lt}
 use lib.Dec.{lit<}
@@ -26,4 +27,4 @@ returns-2 c = search needs
 pub multiply-spec : {M : Type 1} → statement M
 multiply-spec =
     tie.close
-    (tie.spec (λ c. search needs) mul-if1 (λ c κs. search needs) multiply-cut-requires (λ c. search needs) returns (λ c. search needs) returns-2)
+    (tie.spec (λ c. omega arith) mul-if1 (λ c κs. search needs) multiply-cut-requires (λ c. omega arith) returns (λ c. omega arith) returns-2)

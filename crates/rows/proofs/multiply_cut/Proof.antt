@@ -1,7 +1,6 @@
 -- `rows::multiply_cut` meets its contract: the halves of the rows sum to the product, which is put together again and reduced.
 -- Assumes nothing.
 use native.Mathlib.Omega.{arith}
-use borrow.Author.Needs.{needs}
 use Prim.Native.Nat.{_+_}
 use native.Mathlib.Nat.{le-of-lt}
 use mathlib.Core.Path.{refl, _∙_}
@@ -54,6 +53,6 @@ returns c =
 pub multiply-cut-spec : {M : Type 1} → statement M
 multiply-cut-spec =
     tie.close
-    (tie.spec (λ c. search needs) pad-requires (λ c. search needs) (λ c. search needs) (λ c. search needs) all-cut-rows-requires (λ c. search needs)
-    (λ c. search needs) (λ c. search needs) (λ c. search needs) (λ c. search needs) (λ c. search needs) (λ c. search needs) reduce-cut-requires
-    (λ c. search needs) returns)
+    (tie.spec (λ c. refl) pad-requires (λ c. refl) (λ c. refl) (λ c. omega arith) all-cut-rows-requires (λ c. omega arith)
+    (λ c. omega arith) (λ c. omega arith) (λ c. omega arith) (λ c. omega arith) (λ c. omega arith) (λ c. omega arith) reduce-cut-requires
+    (λ c. omega arith) returns)

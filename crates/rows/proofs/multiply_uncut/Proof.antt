@@ -1,7 +1,6 @@
 -- `rows::multiply_uncut` meets its contract: the rows sum to the product, which is then reduced.
 -- Assumes nothing.
 use native.Mathlib.Omega.{arith}
-use borrow.Author.Needs.{needs}
 use Prim.Native.Nat.{_+_}
 use mathlib.Core.Path.{refl}
 use Rattle.rows.proofs.Rows.{reduced-lent}
@@ -24,5 +23,5 @@ returns c =
 pub multiply-uncut-spec : {M : Type 1} → statement M
 multiply-uncut-spec =
     tie.close
-    (tie.spec (λ c. search needs) sums-requires (λ c. search needs) (λ c. search needs) (λ c. search needs) (λ c. search needs) (λ c. search needs)
-    (λ c. search needs) (λ c κs. search needs) (λ c. search needs) returns)
+    (tie.spec (λ c. refl) sums-requires (λ c. omega arith) (λ c. omega arith) (λ c. omega arith) (λ c. omega arith) (λ c. omega arith)
+    (λ c. omega arith) (λ c κs. omega arith) (λ c. omega arith) returns)

@@ -23,10 +23,10 @@ pub products-spec : {M : Type 1} → statement M
 products-spec =
     tie.close
     (tie.spec
-    (λ c. search needs) (λ c. search needs) (λ c. search needs) (λ c. omega (arith, small (c .before)))
-    (λ c. search needs) (λ c. search needs) (λ c. search needs) (λ c. omega (arith, small (c .before .before))) (λ c. omega (arith, small (c .before .before)))
-    (λ c. search needs) (λ c. search needs) (λ c. search needs)
+    (λ c. omega arith) (λ c. omega arith) (λ c. omega arith) (λ c. omega (arith, small (c .before)))
+    (λ c. omega arith) (λ c. omega arith) (λ c. omega arith) (λ c. omega (arith, small (c .before .before))) (λ c. omega (arith, small (c .before .before)))
+    (λ c. omega arith) (λ c. omega arith) (λ c. omega arith)
     (λ c. omega (arith, small (c .before .before .before))) (λ c. omega (arith, small (c .before .before .before)))
-    (λ c. search needs) (λ c. search needs) (λ c. search needs)
+    (λ c. omega arith) (λ c. omega arith) (λ c. omega arith)
     (λ c. omega (arith, small (c .before .before .before .before))) (λ c. omega (arith, small (c .before .before .before .before)))
     returns)

@@ -2,7 +2,6 @@
 -- modulo q.
 -- Assumes nothing.
 use native.Mathlib.Omega.{arith}
-use borrow.Author.Needs.{needs}
 use Prim.Native.Nat.{ℕ, _+_, _-_, _*_, _%_, _<_}
 use native.Mathlib.Nat.{zero-add, mod-lt, lt-trans}
 use mathlib.Core.Path.{sym, _∙_}
@@ -46,6 +45,6 @@ returns c = writing-all (c .before .loop .inv) (omega arith)
 pub reduce-cut-spec : {M : Type 1} → statement M
 reduce-cut-spec =
     tie.close
-    (tie.spec Inv-loop μ-loop (λ c. search needs) (λ c. search needs) loop-holds (λ c. search needs) (λ c. search needs) mul-remainder-2 (λ c. search needs)
-    (λ c. search needs) add-remainder (λ c κs. search needs) (λ c. search needs) (λ c. search needs) (λ c. search needs) (λ c. search needs)
-    loop-again (λ c. search needs) returns)
+    (tie.spec Inv-loop μ-loop (λ c. omega arith) (λ c. omega arith) loop-holds (λ c. omega arith) (λ c. omega arith) mul-remainder-2 (λ c. omega arith)
+    (λ c. omega arith) add-remainder (λ c κs. omega arith) (λ c. omega arith) (λ c. omega arith) (λ c. omega arith) (λ c. omega arith)
+    loop-again (λ c. omega arith) returns)

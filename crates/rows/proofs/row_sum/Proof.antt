@@ -1,6 +1,6 @@
 -- `rows::row_sum` meets its contract: it multiplies what `rowSum` multiplies.
 -- Assumes nothing.
-use borrow.Author.Needs.{needs}
+use native.Mathlib.Omega.{arith}
 use Rattle.rows.specs.Rows.{rowSum}
 use Rattle.rows.proofs.row_sum.Statement.{statement}
 use Rattle.rows.proofs.row_sum.Tie as tie
@@ -18,5 +18,5 @@ returns c = c .products .ensures
 pub row-sum-spec : {M : Type 1} → statement M
 row-sum-spec =
     tie.close
-    (tie.spec (λ c. search needs) (λ c. search needs) (λ c. search needs) (λ c. search needs) (λ c. search needs) (λ c. search needs)
-    (λ c. search needs) (λ c. search needs) (λ c. search needs) (λ c. search needs) (λ c. search needs) products-requires returns)
+    (tie.spec (λ c. omega arith) (λ c. omega arith) (λ c. omega arith) (λ c. omega arith) (λ c. omega arith) (λ c. omega arith)
+    (λ c. omega arith) (λ c. omega arith) (λ c. omega arith) (λ c. omega arith) (λ c. omega arith) products-requires returns)

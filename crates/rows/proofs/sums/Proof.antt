@@ -2,7 +2,7 @@
 -- Assumes nothing.
 use native.Mathlib.Omega.{arith}
 use borrow.Author.Needs.{needs}
-use mathlib.Core.Path.{_∙_}
+use mathlib.Core.Path.{refl, _∙_}
 use Rattle.ring.specs.Work.{part}
 use Rattle.rows.proofs.Rows.{linear-small, linear-row, row-operands}
 use Rattle.rows.proofs.sums.Statement.{statement}
@@ -31,4 +31,4 @@ returns c = λ k.
 pub sums-spec : {M : Type 1} → statement M
 sums-spec =
     tie.close
-    (tie.spec (λ c. search needs) (λ c κs. search needs) (λ c. search needs) all-rows-requires (λ c. search needs) returns)
+    (tie.spec (λ c. refl) (λ c κs. search needs) (λ c. omega arith) all-rows-requires (λ c. omega arith) returns)
