@@ -1,7 +1,6 @@
 -- `rows::products` meets its contract: four products of numbers below 2^31 sum to less than 2^64.
 -- Assumes nothing.
 use native.Mathlib.Omega.{arith}
-use borrow.Author.Needs.{needs}
 use Prim.Native.Nat.{_*_, _≤_}
 use Rattle.rows.proofs.Bounds.{product-small}
 use Rattle.rows.proofs.products.Statement.{statement}
@@ -17,7 +16,7 @@ small c = (
 )
 
 returns : tie.Need-returns
-returns c = search needs
+returns c = omega arith
 
 pub products-spec : {M : Type 1} → statement M
 products-spec =
