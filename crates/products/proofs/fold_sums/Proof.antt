@@ -1,7 +1,6 @@
 -- `products::fold_sums` meets its contract: a turn adds the two sums that fold to its place to the word that stands there.
 -- Assumes nothing.
 use native.Mathlib.Omega.{arith}
-use borrow.Author.Needs.{needs}
 use Prim.Native.Nat.{ℕ, _+_, _-_, _%_, _≤_}
 use lib.ListN.{getD}
 use Rattle.ring.specs.Work.{part}
@@ -51,6 +50,6 @@ returns c = writing-all (c .before .loop .inv) (omega arith)
 pub fold-sums-spec : {M : Type 1} → statement M
 fold-sums-spec =
     tie.close
-    (tie.spec Inv-loop μ-loop loop-holds (λ c. search needs) (λ c. search needs) (λ c. search needs) (λ c. search needs) (λ c. search needs) add-s-2
-    (λ c. search needs) (λ c. search needs) (λ c. search needs) cast-s add-s-4 (λ c κs. search needs) (λ c. search needs) (λ c. search needs)
-    (λ c. search needs) (λ c. search needs) (λ c. search needs) loop-again (λ c. search needs) returns)
+    (tie.spec Inv-loop μ-loop loop-holds (λ c. omega arith) (λ c. omega arith) (λ c. omega arith) (λ c. omega arith) (λ c. omega arith) add-s-2
+    (λ c. omega arith) (λ c. omega arith) (λ c. omega arith) cast-s add-s-4 (λ c κs. omega arith) (λ c. omega arith) (λ c. omega arith)
+    (λ c. omega arith) (λ c. omega arith) (λ c. omega arith) loop-again (λ c. omega arith) returns)

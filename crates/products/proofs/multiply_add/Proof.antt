@@ -1,6 +1,5 @@
 -- `products::multiply_add` meets its contract, since both ways to multiply do.
 -- Assumes nothing.
-use borrow.Author.Needs.{needs}
 use native.Mathlib.Nat.{lt-of-le-of-lt}
 use native.Mathlib.Omega.{arith}
 use lib.Dec.{lit<}
@@ -51,4 +50,4 @@ returns-2 c = rw (c .before .before .before .before .before .with-reciprocal .en
 pub multiply-add-spec : {M : Type 1} → statement M
 multiply-add-spec =
     tie.close
-    (tie.spec (λ c κs. search needs) mul-if2 short-requires (λ c. search needs) returns multiply-long-requires (λ c. search needs) returns-2)
+    (tie.spec (λ c κs. omega arith) mul-if2 short-requires (λ c. omega arith) returns multiply-long-requires (λ c. omega arith) returns-2)

@@ -1,7 +1,6 @@
 -- `products::multiply_in` meets its contract: the factors are filled up with 0, and their product is folded.
 -- Assumes nothing.
 use native.Mathlib.Omega.{arith}
-use borrow.Author.Needs.{needs}
 use Prim.Native.Nat.{_+_}
 use Rattle.ring.specs.Work.{part}
 use Rattle.products.proofs.Loading.{Loaded, loaded-both, loaded-below}
@@ -62,5 +61,5 @@ returns c =
 pub multiply-in-spec : {M : Type 1} → statement M
 multiply-in-spec =
     tie.close
-    (tie.spec (λ c. search needs) (λ c. search needs) (λ c κs. search needs) (λ c κs. search needs) multiply-requires
-    (λ c κs. search needs) (λ c. search needs) (λ c. search needs) returns)
+    (tie.spec (λ c. omega arith) (λ c. omega arith) (λ c κs. omega arith) (λ c κs. omega arith) multiply-requires
+    (λ c κs. omega arith) (λ c. omega arith) (λ c. omega arith) returns)

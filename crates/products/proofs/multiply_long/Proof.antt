@@ -1,5 +1,6 @@
 -- `products::multiply_long` meets its contract: each size of the array is six times the longest product that it is for.
 -- Assumes nothing.
+use mathlib.Core.Path.{refl}
 use borrow.Author.Needs.{needs}
 use native.Mathlib.Omega.{arith}
 use Rattle.products.proofs.Loading.{zeros-below}
@@ -29,16 +30,16 @@ pub multiply-long-spec : {M : Type 1} → statement M
 multiply-long-spec =
     tie.close
     (tie.spec
-    (λ c κs. search needs)
-    (λ c. search needs)
+    (λ c κs. omega arith)
+    (λ c. refl)
     multiply-in-requires
+    (λ c. omega arith)
     (λ c. search needs)
-    (λ c. search needs)
-    (λ c. search needs)
+    (λ c. refl)
     multiply-in-requires-2
+    (λ c. omega arith)
     (λ c. search needs)
-    (λ c. search needs)
-    (λ c. search needs)
+    (λ c. refl)
     multiply-in-requires-3
-    (λ c. search needs)
+    (λ c. omega arith)
     (λ c. search needs))

@@ -2,6 +2,7 @@
 -- Assumes nothing.
 use native.Mathlib.Omega.{arith}
 use borrow.Author.Needs.{needs}
+use mathlib.Core.Path.{refl}
 use Rattle.ring.specs.Work.{part}
 use Rattle.products.proofs.Folding.{sums-small, sums-added}
 use Rattle.products.proofs.short.Statement.{statement}
@@ -35,4 +36,4 @@ returns c =
     (folded .fold-sums .ensures)
 
 pub short-spec : {M : Type 1} → statement M
-short-spec = tie.close (tie.spec (λ c. search needs) sums-requires (λ c. search needs) fold-sums-requires (λ c. search needs) returns)
+short-spec = tie.close (tie.spec (λ c. refl) sums-requires (λ c. omega arith) fold-sums-requires (λ c. omega arith) returns)

@@ -1,7 +1,6 @@
 -- `products::split` meets its contract: the leaves are doubled until n coefficients need no more than 80 in each.
 -- Assumes nothing.
 use native.Mathlib.Omega.{arith}
-use borrow.Author.Needs.{needs}
 use Prim.Native.Nat.{_-_}
 use native.Mathlib.Nat.{lt-of-le-of-lt, div-mul-le-self}
 use Rattle.products.proofs.Halvings.{Leaves, leaves-one, leaves-twice, leaves-fit}
@@ -29,5 +28,5 @@ returns c = leaves-fit (c .before .before .args .n) (c .before .loop .inv) (omeg
 pub split-spec : {M : Type 1} → statement M
 split-spec =
     tie.close
-    (tie.spec Inv-loop μ-loop loop-holds (λ c. search needs) (λ c. search needs) (λ c. search needs) (λ c. omega (arith, loop-again c .few))
-    loop-again (λ c. search needs) (λ c. search needs) (λ c. search needs) mul-t7 returns)
+    (tie.spec Inv-loop μ-loop loop-holds (λ c. omega arith) (λ c. omega arith) (λ c. omega arith) (λ c. omega (arith, loop-again c .few))
+    loop-again (λ c. omega arith) (λ c. omega arith) (λ c. omega arith) mul-t7 returns)
