@@ -1,7 +1,6 @@
 -- `draw_halves` is right because u_y is drawn behind u_x, from the octets after u_x's.
 -- Assumes nothing.
 use native.Mathlib.Omega.{arith}
-use borrow.Author.Needs.{needs}
 use Rattle.parameters.specs.Answers.{setFrom}
 use Rattle.key_generation.proofs.Words.{halves-drawn}
 use Rattle.key_generation.proofs.draw_halves.Statement.{statement}
@@ -24,9 +23,9 @@ pub draw-halves-spec : {M : Type 1} → statement M
 draw-halves-spec =
     tie.close
     (tie.spec
-    (λ c. search needs)
-    (λ c κs. search needs)
-    (λ c κs. search needs)
-    (λ c κs. search needs)
-    (λ c. search needs)
+    (λ c. omega arith)
+    (λ c κs. omega arith)
+    (λ c κs. omega arith)
+    (λ c κs. omega arith)
+    (λ c. omega arith)
     returns)

@@ -1,7 +1,6 @@
 -- `draw_terms` is right because the run is lent just the words of the terms, behind those of u_x and u_y.
 -- Assumes nothing.
 use native.Mathlib.Omega.{arith}
-use borrow.Author.Needs.{needs}
 use Rattle.definitions.proofs.Parameters.{Accepted, accepted-set, modulus-positive}
 use Rattle.parameters.specs.Answers.{setFrom}
 use Rattle.key_generation.proofs.Words.{terms-drawn}
@@ -35,14 +34,14 @@ pub draw-terms-spec : {M : Type 1} → statement M
 draw-terms-spec =
     tie.close
     (tie.spec
-    (λ c. search needs)
-    (λ c. search needs)
-    (λ c κs. search needs)
-    (λ c κs. search needs)
-    (λ c. search needs)
-    (λ c. search needs)
-    (λ c. search needs)
-    (λ c. search needs)
+    (λ c. omega arith)
+    (λ c. omega arith)
+    (λ c κs. omega arith)
+    (λ c κs. omega arith)
+    (λ c. omega arith)
+    (λ c. omega arith)
+    (λ c. omega arith)
+    (λ c. omega arith)
     draw-below-requires
-    (λ c. search needs)
+    (λ c. omega arith)
     returns)

@@ -44,14 +44,14 @@ pub keygen-spec : {M : Type 1} → statement M
 keygen-spec =
     tie.close
     (tie.spec
-    (λ c κs. search needs)
+    (λ c κs. omega arith)
     returns
-    (λ c κs. search needs)
-    (λ c κs. search needs)
-    (λ c. search needs)
+    (λ c κs. omega arith)
+    (λ c κs. omega arith)
+    (λ c. omega arith)
     returns-2
     keygen-counted-requires
-    (λ c. search needs)
-    (λ c. search needs)
-    (λ c. search needs)
+    (λ c. omega arith)
+    (λ c. omega arith)
+    (λ c. omega arith)
     (λ c. search needs))

@@ -5,7 +5,6 @@ use native.Mathlib.Omega.{arith}
 use mathlib.Core.Path.{_≡_, sym, ap, ap₂, _∙_}
 use mathlib.Core.Bool.{true}
 use lib.ListN.{length, replicate}
-use borrow.Author.Needs.{needs}
 use Rattle.definitions.specs.Parameters.{qlen, smallLength, secretLength, publicLength, workLength}
 use Rattle.definitions.specs.Draws.{Drawn}
 use Rattle.definitions.specs.Calls.{keyDraws}
@@ -131,19 +130,19 @@ keygen-counted-spec =
     (tie.spec
     draw-halves-requires
     draw-terms-requires
-    (λ c. search needs)
-    (λ c. search needs)
-    (λ c κs. search needs)
-    (λ c. search needs)
+    (λ c. omega arith)
+    (λ c. omega arith)
+    (λ c κs. omega arith)
+    (λ c. omega arith)
     returns
     write-secret-requires
     write-public-requires
-    (λ c κs. search needs)
-    (λ c κs. search needs)
+    (λ c κs. omega arith)
+    (λ c κs. omega arith)
     mul-taken
     add-used
-    (λ c κs. search needs)
-    (λ c. search needs)
-    (λ c. search needs)
-    (λ c. search needs)
+    (λ c κs. omega arith)
+    (λ c. omega arith)
+    (λ c. omega arith)
+    (λ c. omega arith)
     returns-2)

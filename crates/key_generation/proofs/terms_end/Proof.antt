@@ -4,7 +4,6 @@ use Prim.Native.Nat.{ℕ, _+_, _-_, _*_, _≤_}
 use native.Mathlib.Nat.{mul-le-mul-right}
 use native.Mathlib.Omega.{arith}
 use mathlib.Core.Path.{ap}
-use borrow.Author.Needs.{needs}
 use Rattle.definitions.proofs.Parameters.{Accepted, accepted-set, key-degree-most}
 use Rattle.definitions.proofs.Monomials.{monomialCount-pos}
 use Rattle.parameters.specs.Answers.{setFrom}
@@ -40,8 +39,8 @@ pub terms-end-spec : {M : Type 1} → statement M
 terms-end-spec =
     tie.close
     (tie.spec
-    (λ c. search needs)
-    (λ c. search needs)
+    (λ c. omega arith)
+    (λ c. omega arith)
     monomial-count-requires
     sub-result
     mul-result

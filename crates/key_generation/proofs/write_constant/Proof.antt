@@ -6,7 +6,6 @@ use native.Mathlib.Omega.{arith}
 use mathlib.Core.Path.{_≡_, sym, ap, _∙_}
 use lib.ListN.{length}
 use borrow.Rule.Slice.PartMut.{mid-len}
-use borrow.Author.Needs.{needs}
 use Rattle.definitions.specs.Monomials.{value}
 use Rattle.definitions.specs.Calls.{polynomialIn}
 use Rattle.definitions.proofs.Monomials.{monomialCount-pos}
@@ -82,19 +81,19 @@ write-constant-spec =
     tie.close
     (tie.spec
     evaluate-requires
-    (λ c. search needs)
-    (λ c. search needs)
+    (λ c. omega arith)
+    (λ c. omega arith)
     negate-requires
     mul-from
     sub-from
-    (λ c. search needs)
-    (λ c. search needs)
-    (λ c. search needs)
-    (λ c. search needs)
-    (λ c. search needs)
-    (λ c. search needs)
-    (λ c. search needs)
+    (λ c. omega arith)
+    (λ c. omega arith)
+    (λ c. omega arith)
+    (λ c. omega arith)
+    (λ c. omega arith)
+    (λ c. omega arith)
+    (λ c. omega arith)
     encode-requires
-    (λ c. search needs)
-    (λ c. search needs)
+    (λ c. omega arith)
+    (λ c. omega arith)
     returns)

@@ -8,7 +8,6 @@ use mathlib.Core.List.{List, _++_}
 use lib.ListN.{length, replicate}
 use lib.Seq.{length-slice}
 use borrow.Rule.Slice.PartMut.{midOf, putMid}
-use borrow.Author.Needs.{needs}
 use Rattle.definitions.specs.Parameters.{qlen, monomialCount, elementsLength, publicLength}
 use Rattle.definitions.specs.Octets.{encoded}
 use Rattle.definitions.specs.Calls.{elementsFit, decodedElements}
@@ -119,23 +118,23 @@ pub write-public-spec : {M : Type 1} → statement M
 write-public-spec =
     tie.close
     (tie.spec
-    (λ c. search needs)
-    (λ c κs. search needs)
-    (λ c. search needs)
-    (λ c κs. search needs)
-    (λ c. search needs)
-    (λ c. search needs)
-    (λ c. search needs)
-    (λ c. search needs)
-    (λ c. search needs)
-    (λ c κs. search needs)
-    (λ c. search needs)
-    (λ c. search needs)
-    (λ c. search needs)
-    (λ c. search needs)
+    (λ c. omega arith)
+    (λ c κs. omega arith)
+    (λ c. omega arith)
+    (λ c κs. omega arith)
+    (λ c. omega arith)
+    (λ c. omega arith)
+    (λ c. omega arith)
+    (λ c. omega arith)
+    (λ c. omega arith)
+    (λ c κs. omega arith)
+    (λ c. omega arith)
+    (λ c. omega arith)
+    (λ c. omega arith)
+    (λ c. omega arith)
     encode-requires
-    (λ c. search needs)
+    (λ c. omega arith)
     write-constant-requires
-    (λ c. search needs)
-    (λ c. search needs)
+    (λ c. omega arith)
+    (λ c. omega arith)
     returns)

@@ -34,9 +34,9 @@ pub write-secret-spec : {M : Type 1} → statement M
 write-secret-spec =
     tie.close
     (tie.spec
-    (λ c. search needs)
-    (λ c κs. search needs)
+    (λ c. omega arith)
+    (λ c κs. omega arith)
     write-half-requires
     (λ c κs. search needs)
-    (λ c. search needs)
+    (λ c. omega arith)
     returns)
