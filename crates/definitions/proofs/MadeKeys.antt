@@ -45,9 +45,9 @@ module _ (p : Parameters) (set : AcceptedSet p) (ux uy others : List ℕ) (hx : 
   key-zero =
       let a : Accepted p = accepted-set p set in
       let long : length (tabulate (p .n) constant) ≡ p .n = length-tabulate (p .n) constant in
-      vanishes-zero p set _ ux uy hx hy (key-length p a others _ sized long below constant-below)
-      (key-fits p a others _ sized long below constant-below)
-      (λ k l. rw (key-value p a others _ sized long below constant-below (elementOf ux) (elementOf uy) k l, constant-at k l)
+      vanishes-zero p set _ ux uy hx hy (key-length p others _ sized long)
+      (key-fits p others _ sized long a below constant-below)
+      (λ k l. rw (key-value p others _ sized long a below constant-below (elementOf ux) (elementOf uy) k l, constant-at k l)
       (negated-sum (p .q) _ (modulus-positive p a)))
 
 drawn-length : (p : Parameters) (random : List ℕ) → keyDraws p random .enough ≡ true → length (keyDraws p random .values) ≡ (monomialCount (p .dx) - 1) * p .n

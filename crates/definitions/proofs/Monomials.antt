@@ -36,6 +36,10 @@ pub monomialCount-pos : (d : ℕ) → 0 < monomialCount d
 unfolding monomialCount
 monomialCount-pos d = omega arith
 
+-- the constant's monomial, and the others
+pub count-suc : (d : ℕ) → monomialCount d ≡ suc (monomialCount d - 1)
+count-suc d = omega (arith, monomialCount-pos d)
+
 pub monomialCount-mono : (d e : ℕ) → monomialCount d ≤ monomialCount (d + e)
 monomialCount-mono d zero = rw (add-zero d) (le-refl (monomialCount d))
 monomialCount-mono d (suc e) = rw (add-suc d e) (omega (arith, monomialCount-suc (d + e), monomialCount-mono d e))

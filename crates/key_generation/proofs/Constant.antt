@@ -46,12 +46,12 @@ module _ (p : Parameters) (a : Accepted p) (others : List ℕ) (sized : length o
   zeros-below k l = rw (zero-at k (rw zeros-long at l)) (modulus-positive p a)
 
   pub terms-fit : {public : List ℕ} → public ≡ octets → elementsFit p (monomialCount (p .dx)) public ≡ true
-  terms-fit same = rw same (key-fits p a others zeros sized zeros-long below zeros-below)
+  terms-fit same = rw same (key-fits p others zeros sized zeros-long a below zeros-below)
 
   terms-value : (ux uy : Element) (k : ℕ) → k < p .n
       → value (p .n) (p .dx) (polynomialFrom p octets) ux uy k
       ≡ valueOver (monomialCount (p .dx) - 1) (p .n) (p .dx) (polynomialOf (p .n) others) ux uy k
-  terms-value ux uy k s = rw (key-value p a others zeros sized zeros-long below zeros-below ux uy k s, zero-at k s, add-zero)
+  terms-value ux uy k s = rw (key-value p others zeros sized zeros-long a below zeros-below ux uy k s, zero-at k s, add-zero)
 
   front : take (length octets - p .n * qlen (p .q)) octets ≡ encoded (qlen (p .q)) others
   front =

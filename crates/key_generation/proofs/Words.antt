@@ -35,10 +35,10 @@ use Rattle.definitions.proofs.MadeKeys.{keyDraws-below}
 use Rattle.draws.specs.Runs.{said, drawnAnswer}
 use Rattle.draws.specs.declared.Run.{Run}
 use Rattle.draws.proofs.Groups.{drawsAt-within}
+use Rattle.definitions.proofs.Monomials.{count-suc}
 use Rattle.ring.specs.Work.{part}
 use Rattle.decoding.specs.Elements.{Sizes}
 use Rattle.key_generation.specs.Keys.{Follows, termsEnd, wordsTerms, HalvesDrawn, KeyWords}
-use Rattle.definitions.proofs.KeyTerms.{count-suc}
 use Rattle.key_generation.proofs.Parts.{borrowed-slice, put-zeros, put-follows, follows-slice, follows-kept, slice-kept, slice-at}
 
 pub used-room : (p : Parameters) (random : List ℕ) → secretLength p ≤ length random
