@@ -10,6 +10,7 @@
  *     work words are untouched after 1 to 6 and zero after every other ending
  *     no octet outside a buffer is read or written
  *     what an accepted encryption under made keys gives decrypts to the message, and a sum to the total modulo l
+ *     each coefficient of a sum is the sum modulo q of those added
  *
  * The archive is linked as it is, without a sanitizer's checks in it, so AddressSanitizer alone would not see it touch
  * an octet outside. Hence each buffer lies right before or right after a page that cannot be touched, with canaries on
@@ -76,7 +77,7 @@ struct set {
 
 #define SET(s) (s)->l, (s)->q, (s)->n, (s)->dx, (s)->dr, (s)->mlen
 
-/* Accepted sets: each l, degree and length of q, q next to its bound, next to a power of two and at its largest. */
+/* Accepted sets: each l, degree and length of q, q next to its bound, next to or at a power of two and at its largest. */
 static const struct set table[] = {
     {2, 37, 2, 1, 1, 2},          {2, 251, 2, 1, 1, 1},           {2, 257, 3, 1, 1, 3},
     {4, 1459, 2, 1, 1, 4},        {4, 65521, 2, 1, 1, 4},         {4, 65537, 2, 1, 1, 2},
@@ -87,7 +88,8 @@ static const struct set table[] = {
     {2, 2147483647, 64, 2, 2, 64}, {2, 2147483647, 64, 1, 2, 64}, {4, 1073741827, 33, 2, 1, 64},
     {8, 2147483647, 64, 1, 1, 192}, {16, 2147483647, 115, 1, 1, 460}, {2, 2147483647, 120, 2, 2, 120},
     {4, 2147483647, 118, 1, 2, 236}, {8, 2147483647, 30, 2, 1, 0}, {4, 467424413, 1201, 1, 1, 2402},
-    {2, 2147483647, 4096, 1, 1, 4096},
+    {2, 2147483647, 4096, 1, 1, 4096}, {2, 36, 2, 1, 1, 2},       {2, 65535, 8, 1, 1, 8},
+    {2, 65536, 81, 1, 1, 81},     {2, 16777216, 81, 1, 1, 81},
 };
 #define TABLE (sizeof table / sizeof *table)
 
@@ -280,6 +282,19 @@ static void drop(void) {
 
 /* ---- contents ---- */
 
+/* The i-th coefficient, of size octets. */
+static uint32_t coefficient(const struct buffer *b, size_t i, uint32_t size) {
+    uint32_t c = 0;
+    for (uint32_t j = 0; j < size; j++)
+        c |= (uint32_t)b->at[i * size + j] << 8 * j;
+    return c;
+}
+
+static void set_coefficient(struct buffer *b, size_t i, uint32_t size, uint32_t c) {
+    for (uint32_t j = 0; j < size; j++)
+        b->at[i * size + j] = (uint8_t)(c >> 8 * j);
+}
+
 /* Makes coefficients of size octets fall below the limit, all or all but one. */
 static void below(struct buffer *b, uint32_t size, uint32_t limit) {
     uint8_t how = octet();
@@ -289,23 +304,16 @@ static void below(struct buffer *b, uint32_t size, uint32_t limit) {
     size_t odd = how < 96 ? word() % count : count;
     uint32_t odd_by = octet();
     for (size_t i = 0; i < count; i++) {
-        uint32_t c = 0;
-        for (uint32_t j = 0; j < size; j++)
-            c |= (uint32_t)b->at[i * size + j] << 8 * j;
+        uint32_t c = coefficient(b, i, size);
         c = i == odd ? limit - 2 + odd_by % 4 : how & 1 ? c % limit : c < limit ? c : limit - 1;
-        for (uint32_t j = 0; j < size; j++)
-            b->at[i * size + j] = (uint8_t)(c >> 8 * j);
+        set_coefficient(b, i, size, c);
     }
 }
 
 static int reaches(const struct buffer *b, uint32_t size, uint32_t limit) {
-    for (size_t i = 0; i + size <= b->octets; i += size) {
-        uint32_t c = 0;
-        for (uint32_t j = 0; j < size; j++)
-            c |= (uint32_t)b->at[i + j] << 8 * j;
-        if (c >= limit)
+    for (size_t i = 0; i < b->octets / size; i++)
+        if (coefficient(b, i, size) >= limit)
             return 1;
-    }
     return 0;
 }
 
@@ -341,6 +349,20 @@ static uint32_t fit_packed(struct buffer *b, size_t used_bits) {
 static uint32_t fit_coefficients(struct buffer *b, uint32_t size, uint32_t limit) {
     below(b, size, limit);
     return reaches(b, size, limit) ? GIOPHANTUS_COEFFICIENT : 0;
+}
+
+/* The same of a second summand; half the time it brings each sum to q - 1, q or q + 1, and is q - 1 where that would take
+   q or more. */
+static uint32_t fit_summand(struct buffer *y, const struct buffer *x, uint32_t size, uint32_t q) {
+    uint8_t how = octet();
+    if (how < 128)
+        return fit_coefficients(y, size, q);
+    for (size_t i = 0; i < y->octets / size; i++) {
+        uint32_t a = coefficient(x, i, size), b = q - 1 - a + (how + i) % 3;
+        if (a < q)
+            set_coefficient(y, i, size, b < q ? b : q - 1);
+    }
+    return reaches(y, size, q) ? GIOPHANTUS_COEFFICIENT : 0;
 }
 
 /* Of a packed argument and one of coefficients: padding comes first. */
@@ -538,11 +560,14 @@ static void one_call(void) {
         x = sized(INPUT, ct, 1), y = octet() & 1 ? x : sized(INPUT, ct, 1), z = sized(OUTPUT, ct, 1);
         if (refused == 0 && !wrong_length) {
             low = fit_coefficients(x, qlen, s.q);
-            if (y != x && fit_coefficients(y, qlen, s.q) != 0)
+            if (y != x && fit_summand(y, x, qlen, s.q) != 0)
                 low = GIOPHANTUS_COEFFICIENT;
         }
         keep();
         number = giophantus_add(SET(&s), OCTETS(x), OCTETS(y), OCTETS(z));
+        for (size_t i = 0; number == 0 && refused == 0 && i < z->octets / qlen; i++)
+            rule(coefficient(z, i, qlen) == ((uint64_t)coefficient(x, i, qlen) + coefficient(y, i, qlen)) % s.q,
+                 "a coefficient of the sum isn't the sum modulo q");
         break;
     case DECRYPT:
         x = sized(INPUT, sk, 1), y = sized(INPUT, ct, 1), z = sized(OUTPUT, msg, 1), w = sized(WORK, work_words, 4);

@@ -49,7 +49,8 @@
  *
  * The library allocates nothing, keeps no state and calls nothing but memset and its like (memcpy, memmove), which
  * every C library has. The source of the random octets, the primality of q and equal timing are outside it, and
- * nothing is claimed about secrecy.
+ * nothing is claimed about secrecy. Two coefficients are added without a test or a jump in the library's source;
+ * about the compiled code nothing is claimed.
  */
 
 #ifndef GIOPHANTUS_H

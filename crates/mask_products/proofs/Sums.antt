@@ -2,7 +2,8 @@
 -- then the same before and after a step, so that steps compose.
 --
 --   mask-at, mask-same   the mask's element j stands in part j;  the mask is as it was where the words of the first six parts are, and
---                    only there (word-kept);  spare-mask: it is where part 6 was written;  borrowed-wrote: a part was lent and filled
+--                    only there (word-kept);  spare-mask, spare-sum: it is where part 6 was written, and so is the sum;  borrowed-wrote: a part
+--                    was lent and filled
 --   sum-wrote        the sum was written;  sum-gains: an element was added in place;  sum-cong: the same sum modulo q, in another form
 --   sum-then         an element was added to a sum
 --   gains-none, -by  nothing was added;  gains-spare: part 6 was filled first
@@ -59,6 +60,9 @@ module _ (p : Parameters) where
   -- part 6 was written
   pub spare-mask : {old mid : List ℕ} {a : Element} → Wrote (6 * p .n) (p .n) a old mid → take (6 * p .n) mid ≡ take (6 * p .n) old
   spare-mask {old} {mid} w = mask-same old mid (w .as-long) (w .before)
+
+  pub spare-sum : {old mid : List ℕ} {a : Element} → Wrote (6 * p .n) (p .n) a old mid → InRing (p .q) (p .n) (sumIn p old) → InRing (p .q) (p .n) (sumIn p mid)
+  spare-sum w below k l = rw (w .after (7 * p .n + k) (omega arith)) (below k l)
 
   pub sum-wrote : {f : Polynomial → Element} {g : Element} {old new : List ℕ} → Wrote (7 * p .n) (p .n) g old new
       → ((k : ℕ) → k < p .n → g k ≡ f (maskIn p old) k % p .q) → SumIs p f old new

@@ -14,7 +14,7 @@ ghost use Rattle.definitions.specs.Contracts.{before, after};
 ghost use Rattle.definitions.specs.Demand3.{AcceptedSet};
 ghost use Rattle.parameters.specs.Answers.{setFrom};
 ghost use Rattle.ring.specs.Work.{part, written};
-ghost use Rattle.mask_products.specs.Products.{maskIn, pairTerm, elementTerms, productTerm, KeyAndMask, Adding, SumIs, SumGains};
+ghost use Rattle.mask_products.specs.Products.{maskIn, sumIn, pairTerm, elementTerms, productTerm, KeyAndMask, Adding, SumIs, SumGains};
 use parameters::Parameters;
 
 // The sum becomes 0.
@@ -47,7 +47,7 @@ pub fn load_key(p: Parameters, public: &[u8], i: usize, work: &mut [u32])
 // Part 6 times the mask's j-th element, added to the sum.
 pub fn multiply_mask(p: Parameters, j: usize, work: &mut [u32])
     requires { ⌜ AcceptedSet (setFrom p) × (length (now work) ≡ workLength (setFrom p)) × (j < 6) ⌝ }
-    requires { ⌜ InRing (p .q) (p .n) (part (now work) (6 * p .n)) × InRing (p .q) (p .n) (maskIn (setFrom p) (now work) j) ⌝ }
+    requires { ⌜ InRing (p .q) (p .n) (part (now work) (6 * p .n)) × InRing (p .q) (p .n) (maskIn (setFrom p) (now work) j) × InRing (p .q) (p .n) (sumIn (setFrom p) (now work)) ⌝ }
     ensures { λ _. ⌜ SumGains (setFrom p) (λ mask. conv (p .n) (part (before work) (6 * p .n)) (mask j)) (before work) (after work) ⌝ }
 {
     let n = p.n as usize;

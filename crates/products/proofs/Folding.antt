@@ -2,7 +2,7 @@
 -- after.
 -- Assumes nothing.
 use Prim.Native.Nat.{ℕ, _+_, _-_, _*_, _%_, _≤_, _<_}
-use native.Mathlib.Nat.{add-zero, zero-add, zero-mul, mul-add, mod-eq-of-lt, add-mod-right, mul-le-mul, le-of-lt}
+use native.Mathlib.Nat.{add-zero, zero-add, zero-mul, mul-add, mod-eq-of-lt, add-mod-right, le-of-lt}
 use native.Mathlib.Omega.{arith}
 use native.Mathlib.Decide.{decLt, ℕ-discrete}
 use mathlib.Core.Path.{_≡_, sym, _∙_, ap}
@@ -16,6 +16,7 @@ use Rattle.definitions.proofs.Ring.{conv-le}
 use Rattle.ring.specs.Work.{part, written}
 use Rattle.ring.specs.Linear.{linear}
 use Rattle.ring.proofs.Linear.{linear-cong}
+use Rattle.rows.proofs.Bounds.{eighty-small}
 use Rattle.products.proofs.Loading.{Loaded}
 
 sum-padded : (n m : ℕ) (f : ℕ → ℕ) → n ≤ m → ((i : ℕ) → n ≤ i → i < m → f i ≡ 0) → sum m f ≡ sum n f
@@ -89,12 +90,11 @@ module _ (n q : ℕ) (a b : Element) (low : List ℕ) (same : (k : ℕ) → getD
   sums-folded : {k : ℕ} → k < n → getD low k 0 + getD low (n + k) 0 ≡ conv n a b k
   sums-folded {k} l = rw (same k, same (n + k)) (sym (conv-linear n a b l))
 
-  -- they leave room for a word of 32 bits
-  pub sums-small : {top : ℕ} → n ≤ 80 → q * top ≤ 230584300867682304 → InRing q n a → InRing top n b → (k : ℕ) → k < n
-      → getD low k 0 + getD low (n + k) 0 ≤ 18446744069414584320
+  -- they fit a word
+  pub sums-small : {top : ℕ} → n ≤ 80 → q * top ≤ 230584300921369395 → InRing q n a → InRing top n b → (k : ℕ) → k < n
+      → getD low k 0 + getD low (n + k) 0 < 18446744073709551616
   sums-small {top} few h x y k l =
-      let most : n * (q * top) ≤ 18446744069414584320 = mul-le-mul few h in
-      omega (arith, sums-folded l, conv-le n q top a b (λ i s. le-of-lt (x i s)) (λ i s. le-of-lt (y i s)) k)
+      omega (arith, sums-folded l, conv-le n q top a b (λ i s. le-of-lt (x i s)) (λ i s. le-of-lt (y i s)) k, eighty-small few h)
 
   pub sums-added : (at : ℕ) (old : List ℕ) {new : List ℕ}
       → new ≡ written at (tabulate n (λ k. (getD low k 0 + getD low (n + k) 0 + part old at k) % q)) old

@@ -1,6 +1,6 @@
 -- What a product in R_q asks of the work words and leaves in them, and how a long one is halved.
 --
---   ProductFits           the three elements of a product stand in the work words, the first below q and the second below its bound
+--   ProductFits      the three elements of a product stand in the work words, the first and the third below q and the second below its bound
 --   withProduct      the words with the product a × b + c where c stood
 --   Fit              a product that can be halved has room for n coefficients; those past n are 0
 -- Assumes nothing.
@@ -24,6 +24,7 @@ pub record ProductFits (p : Product) (modulus : Modulus) (work : List ℕ) : Typ
   pub reciprocal : Reciprocal modulus
   pub first-ring : InRing (modulus .q) (p .n) (part work (p .a))
   pub second-ring : InRing (p .top) (p .n) (part work (p .b))
+  pub third-ring : InRing (modulus .q) (p .n) (part work (p .c))
 
 abbrev pub withProduct : Product → ℕ → List ℕ → List ℕ
 withProduct p q work = productAdded (p .n) q (p .a) (p .b) (p .c) work

@@ -1,6 +1,7 @@
 // Products in R_q over the work words (01, "Ring, monomials, octets"): the product of two polynomials by Karatsuba, in an array of its
-// own, then t^n = 1 and one reduction; a short one is summed row by row from where its factors stand. Nothing is refused: callers keep
-// parts within the words and coefficients below q. Contracts cite ring's productAdded; those of the steps also specs/Products.antt.
+// own, then t^n = 1 and c by sums of two coefficients; a short one is summed row by row from where its factors stand, and reduced once
+// before c is added. Nothing is refused: callers keep parts within the words and coefficients below q. Contracts cite ring's
+// productAdded; those of the steps also specs/Products.antt.
 ghost use mathlib.Core.Path.{_≡_};
 ghost use Prim.Native.Nat.{ℕ, _+_, _*_, _%_, _<_, _≤_};
 ghost use lib.ListN.{length, getD};
@@ -44,46 +45,46 @@ fn split(n: usize) -> Halving
     }
 }
 
-// The sum of three coefficients modulo q.
-fn folded(x: u32, y: u32, z: u32, modulus: Modulus) -> u32
-    requires { ⌜ Reciprocal modulus ⌝ }
-    ensures { λ r. ⌜ r ≡ (x + y + z) % modulus .q ⌝ }
+// The sum of three coefficients.
+fn folded(x: u32, y: u32, z: u32, q: u32) -> u32
+    requires { ⌜ (x < q) × (y < q) × (z < q) × (q < 2147483648) ⌝ }
+    ensures { λ r. ⌜ r ≡ (x + y + z) % q ⌝ }
 {
-    let s = x as u64 + y as u64 + z as u64;
-    reduction::remainder(s, modulus)
+    ring::sum(ring::sum(x, y, q), z, q)
 }
 
 // t^n = 1: of the product that stands from at on in other words, the places from n on come to those from 0 on, and c is added.
-fn fold(work: &mut [u32], c: usize, n: usize, modulus: Modulus, words: &[u32], at: usize)
-    requires { ⌜ (c + n ≤ length (now work)) × (at + (n + n) ≤ length (now words)) × Reciprocal modulus ⌝ }
-    ensures { λ _. ⌜ now (work .exit) ≡ written c (tabulate n (λ k. (part (now (words .entry)) at k + part (now (words .entry)) at (n + k) + part (now (work .entry)) c k) % modulus .q)) (now (work .entry)) ⌝ }
+fn fold(work: &mut [u32], c: usize, n: usize, q: u32, words: &[u32], at: usize)
+    requires { ⌜ (c + n ≤ length (now work)) × (at + (n + n) ≤ length (now words)) × (q < 2147483648) ⌝ }
+    requires { ⌜ InRing q n (part (now work) c) × InRing q (n + n) (part (now words) at) ⌝ }
+    ensures { λ _. ⌜ now (work .exit) ≡ written c (tabulate n (λ k. (part (now (words .entry)) at k + part (now (words .entry)) at (n + k) + part (now (work .entry)) c k) % q)) (now (work .entry)) ⌝ }
 {
     let mut k = 0;
     while k < n {
         let low = words[at + k];
         let high = words[at + (n + k)];
-        work[c + k] = folded(low, high, work[c + k], modulus);
+        work[c + k] = folded(low, high, work[c + k], q);
         k += 1;
     }
 }
 
-// The same of sums that are not reduced.
+// The same of sums that are not reduced yet: the two of a place are reduced together, and then c is added.
 fn fold_sums(work: &mut [u32], c: usize, n: usize, modulus: Modulus, low: &[u64])
-    requires { ⌜ (c + n ≤ length (now work)) × (n + n ≤ length (now low)) × Reciprocal modulus ⌝ }
-    requires { ⌜ ((k : ℕ) → k < n → getD (now low) k 0 + getD (now low) (n + k) 0 ≤ 18446744069414584320) ⌝ }
+    requires { ⌜ (c + n ≤ length (now work)) × (n + n ≤ length (now low)) × Reciprocal modulus × InRing (modulus .q) n (part (now work) c) ⌝ }
+    requires { ⌜ ((k : ℕ) → k < n → getD (now low) k 0 + getD (now low) (n + k) 0 < 18446744073709551616) ⌝ }
     ensures { λ _. ⌜ now (work .exit) ≡ written c (tabulate n (λ k. (getD (now (low .entry)) k 0 + getD (now (low .entry)) (n + k) 0 + part (now (work .entry)) c k) % modulus .q)) (now (work .entry)) ⌝ }
 {
     let mut k = 0;
     while k < n {
-        let s = low[k] + low[n + k] + work[c + k] as u64;
-        work[c + k] = reduction::remainder(s, modulus);
+        let s = reduction::remainder(low[k] + low[n + k], modulus);
+        work[c + k] = ring::sum(s, work[c + k], modulus.q);
         k += 1;
     }
 }
 
 // The product of p, row by row: short enough that the sums fit a word.
 fn short(work: &mut [u32], p: Product, modulus: Modulus)
-    requires { ⌜ ProductFits p modulus (now work) × (p .n ≤ 80) × (modulus .q * p .top ≤ 230584300867682304) ⌝ }
+    requires { ⌜ ProductFits p modulus (now work) × (p .n ≤ 80) × (modulus .q * p .top ≤ 230584300921369395) ⌝ }
     ensures { λ _. ⌜ now (work .exit) ≡ withProduct p (modulus .q) (now (work .entry)) ⌝ }
 {
     let mut low = [0u64; 168];
@@ -103,7 +104,7 @@ fn multiply_in(work: &mut [u32], p: Product, modulus: Modulus, h: Halving, words
     ring::copy_from(words, 0, work, p.a, p.n);
     ring::copy_from(words, m, work, p.b, p.n);
     karatsuba::multiply(words, 0, m, at, free, h, modulus, p.top);
-    fold(work, p.c, p.n, modulus, words, at);
+    fold(work, p.c, p.n, modulus.q, words, at);
 }
 
 // The same in an array of the least of three sizes: what it is cleared by is then little beside the product.
@@ -130,7 +131,7 @@ fn multiply_long(work: &mut [u32], p: Product, modulus: Modulus)
 // In place c := a × b + c in R_q; top is a bound of b's coefficients. All other words are kept.
 pub fn multiply_add(work: &mut [u32], a: usize, b: usize, c: usize, n: usize, q: u32, top: u32)
     requires { ⌜ (a + n ≤ length (now work)) × (b + n ≤ length (now work)) × (c + n ≤ length (now work)) × (n ≤ 4096) × (0 < top) × (top ≤ q) × (q < 2147483648) ⌝ }
-    requires { ⌜ InRing q n (part (now work) a) × InRing top n (part (now work) b) ⌝ }
+    requires { ⌜ InRing q n (part (now work) a) × InRing top n (part (now work) b) × InRing q n (part (now work) c) ⌝ }
     ensures { λ _. ⌜ now (work .exit) ≡ productAdded n q a b c (now (work .entry)) ⌝ }
 {
     let modulus = reduction::with_reciprocal(q);

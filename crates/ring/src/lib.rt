@@ -9,15 +9,14 @@ ghost use Rattle.definitions.specs.Sequences.{every, tabulate};
 ghost use Rattle.definitions.specs.Ring.{scale, InRing};
 ghost use Rattle.ring.specs.Work.{part, written, Apart, elementAdded, elementTaken, otherAdded, otherTaken, scaledAdded, negated};
 
-// The sum of two coefficients. Where taking q off the sum wraps, q was not to be taken off: the highest bit says so, which is quicker to
-// test, four coefficients at once, than the sum against q.
+// The sum of two coefficients, by sums, differences, products and shifts alone (02, Q-4); whatever adds two coefficients goes by it. Bit 31
+// of s + (2^31 - q) is 1 just where s is q or more, and there q is taken off.
 pub fn sum(a: u32, b: u32, q: u32) -> u32
     requires { ⌜ (a < q) × (b < q) × (q < 2147483648) ⌝ }
     ensures { λ r. ⌜ r ≡ (a + b) % q ⌝ }
 {
     let s = a + b;
-    let t = std::num::wrapping_sub_u32(s, q);
-    if t < 2147483648 { t } else { s }
+    s - q * ((s + (2147483648 - q)) >> 31)
 }
 
 // In place c := c + e in R_q.
@@ -46,17 +45,12 @@ pub fn add_from(work: &mut [u32], c: usize, other: &[u32], e: usize, n: usize, q
     }
 }
 
-// The difference of two coefficients: where it wraps, q is added, and that wraps back.
+// The difference of two coefficients, by the same means: bit 31 of a + (2^31 - b) is 1 just where a is b or more, and elsewhere q is added.
 pub fn difference(a: u32, b: u32, q: u32) -> u32
     requires { ⌜ (a < q) × (b < q) × (q < 2147483648) ⌝ }
     ensures { λ r. ⌜ r ≡ (a + (q - b)) % q ⌝ }
 {
-    let t = std::num::wrapping_sub_u32(a, b);
-    if t < 2147483648 {
-        t
-    } else {
-        std::num::wrapping_add_u32(t, q)
-    }
+    a + (q - q * ((a + (2147483648 - b)) >> 31)) - b
 }
 
 // In place c := c - e in R_q.
@@ -85,22 +79,14 @@ pub fn subtract_from(work: &mut [u32], c: usize, other: &[u32], e: usize, n: usi
     }
 }
 
-// The negative of a coefficient.
-fn negative(a: u32, q: u32) -> u32
-    requires { ⌜ a < q ⌝ }
-    ensures { λ r. ⌜ r ≡ (q - a) % q ⌝ }
-{
-    if a == 0 { 0 } else { q - a }
-}
-
 // In place a := -a in R_q.
 pub fn negate(work: &mut [u32], a: usize, n: usize, q: u32)
-    requires { ⌜ (a + n ≤ length (now work)) × InRing q n (part (now work) a) ⌝ }
+    requires { ⌜ (a + n ≤ length (now work)) × (q < 2147483648) × InRing q n (part (now work) a) ⌝ }
     ensures { λ _. ⌜ now (work .exit) ≡ negated n q a (now (work .entry)) ⌝ }
 {
     let mut k = 0;
     while k < n {
-        work[a + k] = negative(work[a + k], q);
+        work[a + k] = difference(0, work[a + k], q);
         k += 1;
     }
 }

@@ -14,7 +14,7 @@ product-small {a} {b} h l =
     mul-le-mul x y
 
 -- eighty products of which each is at most UNCUT fit a word
-pub eighty-small : {m p : ℕ} → m ≤ 80 → p ≤ 230584300867682304 → m * p < 18446744073709551616
+pub eighty-small : {m p : ℕ} → m ≤ 80 → p ≤ 230584300921369395 → m * p < 18446744073709551616
 eighty-small h l = let s = mul-le-mul h l in omega arith
 
 -- ---- a running sum of cut numbers: after i rows, four at a time, each half is at most what i / 4 halves can be

@@ -122,7 +122,7 @@ unfolding sum fourRows
 sum-eight-rows m a b i k = sum-append i 8 (rowTerm m a b k) ∙ simp (add-zero, zero-add, add-assoc)
 
 -- where all sums fit a word
-pub linear-small : (m q top : ℕ) (a b : Element) → m ≤ 80 → q * top ≤ 230584300867682304 → InRing q m a → InRing top m b → (k : ℕ)
+pub linear-small : (m q top : ℕ) (a b : Element) → m ≤ 80 → q * top ≤ 230584300921369395 → InRing q m a → InRing top m b → (k : ℕ)
     → linear m a b k < 18446744073709551616
 unfolding rowTerm
 linear-small m q top a b few l h g k =

@@ -16,8 +16,8 @@ use reduction::Modulus;
 // Where a sum of four products is cut: 2^42.
 const CUT: u64 = 4398046511104;
 
-// The largest product of which eighty, and a word of 32 bits, fit 64 bits: (2^64 - 2^32) / 80.
-pub const UNCUT: u64 = 230584300867682304;
+// The largest product of which eighty fit 64 bits: (2^64 - 1) / 80, rounded down.
+pub const UNCUT: u64 = 230584300921369395;
 
 // How many rows are added at a time.
 const PASS: usize = 8;
@@ -200,7 +200,7 @@ fn reduce_cut(product: &mut [u32], low: &[u64], high: &[u64], n: usize, modulus:
 
 // The sums of the rows of two polynomials that stand anywhere in the words, not reduced; q and top are bounds of their coefficients.
 pub fn sums(words: &[u32], a: usize, b: usize, m: usize, q: u32, top: u32, low: &mut [u64])
-    requires { ⌜ (m ≤ 80) × (a + m ≤ length (now words)) × (b + m ≤ length (now words)) × (now low ≡ replicate 168 0) × (q * top ≤ 230584300867682304) × (q < 2147483648) × (top ≤ 2147483648) ⌝ }
+    requires { ⌜ (m ≤ 80) × (a + m ≤ length (now words)) × (b + m ≤ length (now words)) × (now low ≡ replicate 168 0) × (q * top ≤ 230584300921369395) × (q < 2147483648) × (top ≤ 2147483648) ⌝ }
     requires { ⌜ InRing q m (part (now words) a) × InRing top m (part (now words) b) ⌝ }
     ensures { λ _. ⌜ ((k : ℕ) → getD (now (low .exit)) k 0 ≡ linear m (part (now (words .entry)) a) (part (now (words .entry)) b) k) ⌝ }
 {
@@ -219,7 +219,7 @@ fn multiply_uncut(
     modulus: Modulus,
     top: u32,
 )
-    requires { ⌜ Leaf m a b at (now words) × (top ≤ modulus .q) × Reciprocal modulus × (modulus .q * top ≤ 230584300867682304) ⌝ }
+    requires { ⌜ Leaf m a b at (now words) × (top ≤ modulus .q) × Reciprocal modulus × (modulus .q * top ≤ 230584300921369395) ⌝ }
     requires { ⌜ InRing (modulus .q) m (part (now words) a) × InRing top m (part (now words) b) ⌝ }
     ensures { λ _. ⌜ now (words .exit) ≡ leafProduct (modulus .q) m a b at (now (words .entry)) ⌝ }
 {

@@ -2,7 +2,7 @@
 --
 --   sum-written      an element was written, and another added to it
 --   Sums             a stands in part 6 and r_i + r_j in the place of r_i; all else that counts is as it was
---   sums-stand       how that comes about;  sums-below: both factors are below q
+--   sums-stand       how that comes about;  sums-below: both factors are below q, and so is the sum
 --   sums-added       their product was added, and r_i restored
 -- Assumes nothing.
 use Prim.Native.Nat.{ℕ, _+_, _-_, _*_, _%_, _≤_, _<_}
@@ -58,9 +58,10 @@ module _ {p : Parameters} {i j : ℕ} (few : i < 6) (earlier : j < i) {a : Eleme
         as-long = v .as-long ∙ w .as-long;
       }
 
-  pub sums-below : {mid : List ℕ} → 0 < p .q → InRing (p .q) (p .n) a → Sums p i j a old mid
-      → InRing (p .q) (p .n) (part mid (6 * p .n)) × InRing (p .q) (p .n) (maskIn p mid i)
-  sums-below {mid} pos h s = ((λ k l. rw (s .factor k l) (h k l)), (λ k l. rw (mask-at p mid few l ∙ s .whole k l) (mod-lt _ pos)))
+  pub sums-below : {mid : List ℕ} → 0 < p .q → InRing (p .q) (p .n) a → InRing (p .q) (p .n) (sumIn p old) → Sums p i j a old mid
+      → InRing (p .q) (p .n) (part mid (6 * p .n)) × InRing (p .q) (p .n) (maskIn p mid i) × InRing (p .q) (p .n) (sumIn p mid)
+  sums-below {mid} pos h below s =
+      (λ k l. rw (s .factor k l) (h k l), λ k l. rw (mask-at p mid few l ∙ s .whole k l) (mod-lt _ pos), λ k l. rw (s .total k l) (below k l))
 
   module _ {mid third : List ℕ} (s : Sums p i j a old mid) (t : SumGains p (λ mask. conv (p .n) (part mid (6 * p .n)) (mask i)) mid third) where
     -- the elements of the pair after the product

@@ -10,13 +10,13 @@ ghost use Prim.Native.Nat.{_+_, _*_, _%_, _≤_, _<_};
 ghost use lib.ListN.{length, take};
 ghost use Rattle.definitions.specs.Sequences.{tabulate};
 ghost use Rattle.definitions.specs.Parameters.{degree, monomialCount};
-ghost use Rattle.definitions.specs.Ring.{conv};
+ghost use Rattle.definitions.specs.Ring.{conv, InRing};
 ghost use Rattle.definitions.specs.Calls.{polynomialFrom};
 ghost use Rattle.definitions.specs.Contracts.{before, after};
 ghost use Rattle.definitions.specs.Demand3.{AcceptedSet};
 ghost use Rattle.parameters.specs.Answers.{setFrom};
 ghost use Rattle.ring.specs.Work.{written};
-ghost use Rattle.mask_products.specs.Products.{maskIn, pairTerm, productTerm, KeyAndMask, SumIs, SumGains};
+ghost use Rattle.mask_products.specs.Products.{maskIn, sumIn, pairTerm, productTerm, KeyAndMask, SumIs, SumGains};
 ghost use Rattle.shared_products.specs.Sharing.{keyIn, pairSum, elementPrepared, PreparedKey, Shared, SharedAdding, bothTerms, rowOfPairs};
 use parameters::Parameters;
 
@@ -70,7 +70,7 @@ fn load_sum(p: Parameters, list: &[u32], i: usize, j: usize, work: &mut [u32])
 
 // (X_i + X_j)(r_i + r_j), added to the sum. The sum of the mask's elements stands in the place of the first meanwhile.
 fn multiply_sums(p: Parameters, list: &[u32], i: usize, j: usize, work: &mut [u32])
-    requires { ⌜ Shared (setFrom p) (now work) (now list) × (i < monomialCount (p .dx)) × (j < i) ⌝ }
+    requires { ⌜ Shared (setFrom p) (now work) (now list) × (i < monomialCount (p .dx)) × (j < i) × InRing (p .q) (p .n) (sumIn (setFrom p) (now work)) ⌝ }
     ensures { λ _. ⌜ SumGains (setFrom p) (λ mask. conv (p .n) (pairSum (keyIn (setFrom p) (before list)) i j) (pairSum mask i j)) (before work) (after work) ⌝ }
 {
     let n = p.n as usize;

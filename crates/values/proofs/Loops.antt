@@ -127,8 +127,10 @@ module _ {n q at factor : ℕ} {h : ℕ → Element} {fits : ℕ → Bool} {old 
     factor-on : (k : ℕ) → k < n → part mid factor k ≡ part old factor k
     factor-on k l = p .before (factor + k) (omega (arith, apart .0, apart .1)) ∙ r .before (factor + k) (omega (arith, apart .0))
 
-    pub hornerAt-ready : 0 < q → InRing 16 n (part old factor) → (0 < c → InRing q n (part mid at)) × InRing 16 n (part mid factor)
-    hornerAt-ready pos small = (λ z k l. rw (held-on z k l) (mod-lt _ pos), λ k l. rw (factor-on k l) (small k l))
+    pub hornerAt-ready : 0 < q → InRing 16 n (part old factor) → ((k : ℕ) → k < n → f k ≡ h c k % q)
+        → (0 < c → InRing q n (part mid at)) × InRing 16 n (part mid factor) × InRing q n (part mid next)
+    hornerAt-ready pos small same =
+        (λ z k l. rw (held-on z k l) (mod-lt _ pos), λ k l. rw (factor-on k l) (small k l), λ k l. rw (p .placed k l ∙ same k l) (mod-lt _ pos))
 
     pub hornerAt-next : {new : List ℕ} → fits c ≡ true → ((k : ℕ) → k < n → f k ≡ h c k % q)
         → Placed n at (stepped n q c (part mid at) (part mid factor) (part mid next)) mid new → HornerAt n q at factor h fits old (c + 1) new

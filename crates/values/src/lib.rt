@@ -40,7 +40,7 @@ fn read_element(
 // One step of Horner's rule at a part: it becomes itself times a factor, and the next element added. The first element of all is copied.
 fn step(work: &mut [u32], at: usize, factor: usize, next: usize, count: usize, n: usize, q: u32)
     requires { ⌜ (factor + n ≤ at) × (at + n ≤ next) × (next + n ≤ length (now work)) × (n ≤ 4096) × (16 ≤ q) × (q < 2147483648) ⌝ }
-    requires { ⌜ (0 < count → InRing q n (part (now work) at)) × InRing 16 n (part (now work) factor) ⌝ }
+    requires { ⌜ (0 < count → InRing q n (part (now work) at)) × InRing 16 n (part (now work) factor) × InRing q n (part (now work) next) ⌝ }
     ensures { λ _. ⌜ Placed n at (stepped n q count (part (now (work .entry)) at) (part (now (work .entry)) factor) (part (now (work .entry)) next)) (now (work .entry)) (now (work .exit)) ⌝ }
 {
     if 0 < count {

@@ -15,3 +15,4 @@ pub mod inputs;
 pub mod run;
 pub mod sets;
 pub mod spoil;
+pub mod sums;

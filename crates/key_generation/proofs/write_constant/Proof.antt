@@ -46,7 +46,8 @@ octets c =
 negate-requires : tie.Need-negate-requires
 negate-requires c κs =
     let v = c .before .before .before in
-    (omega (arith, words v), (λ k l. rw (found v k (omega arith)) (mod-lt _ (omega (arith, start v .pre .0 .3)))))
+    let pre = start v .pre .0 in
+    (omega (arith, words v), pre .4, (λ k l. rw (found v k (omega arith)) (mod-lt _ (omega (arith, pre .3)))))
 
 mul-from : tie.Need-mul-from
 mul-from c = let sizes = start (valued (c .before .before)) .pre .0 .0 in omega (arith, mul-le-mul (sizes .most) (sizes .octets-most))

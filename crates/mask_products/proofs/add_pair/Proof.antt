@@ -13,7 +13,7 @@ use Rattle.monomials.proofs.Table.{flag-none, flag-one}
 use Rattle.ring.proofs.Work.{Wrote, wrote}
 use Rattle.karatsuba.proofs.Steps.{inside-ring}
 use Rattle.mask_products.specs.Products.{pairTerm}
-use Rattle.mask_products.proofs.Sums.{inputs-set, inputs-room, mask-few, key-below, spare-mask, gains-none, gains-spare}
+use Rattle.mask_products.proofs.Sums.{inputs-set, inputs-room, mask-few, key-below, spare-mask, spare-sum, gains-none, gains-spare}
 use Rattle.mask_products.proofs.add_pair.Statement.{statement}
 use Rattle.mask_products.proofs.add_pair.Tie as tie
 
@@ -49,7 +49,11 @@ multiply-mask-requires c κs =
     let g = s .pre .0 .inputs in
     let w = loaded call in (
       (g .set, w .as-long ∙ g .work-exact, mask-few g (s .pre .2)),
-      (inside-ring w (key-below g (s .args .i) (s .pre .1)), λ k l. rw (spare-mask (setFrom (s .args .p)) w) (g .mask (s .args .j) (s .pre .2) k l)),
+      (
+        inside-ring w (key-below g (s .args .i) (s .pre .1)),
+        λ k l. rw (spare-mask (setFrom (s .args .p)) w) (g .mask (s .args .j) (s .pre .2) k l),
+        spare-sum (setFrom (s .args .p)) w (s .pre .0 .below),
+      ),
     )
 
 returns-2 : tie.Need-returns-2

@@ -22,18 +22,6 @@ mul-multiply-add-2 c =
     let s = start c in
     omega (arith, part-room (s .args .p .n) (s .args .j) 6 (s .pre .0 .2), accepted-set _ (s .pre .0 .0) .ring-most)
 
-multiply-add-requires : tie.Need-multiply-add-requires
-multiply-add-requires c κs =
-    let s = start c in
-    let a = s .args in
-    let p = setFrom (a .p) in
-    let set = accepted-set p (s .pre .0 .0) in
-    let room = work-words p (a .work .now) (s .pre .0 .1) in
-    let inside = part-room (p .n) (a .j) 6 (s .pre .0 .2) in (
-      (omega arith, omega arith, omega arith, set .ring-most, modulus-positive p set, omega arith, omega (arith, set .modulus-most)),
-      (s .pre .1 .0, λ k l. rw (← mask-at p (a .work .now) (s .pre .0 .2) l) (s .pre .1 .1 k l)),
-    )
-
 returns : tie.Need-returns
 returns c =
     let s = start (c .before .before .before) in
@@ -47,6 +35,18 @@ returns c =
           (add-comm _ _
           ∙ ap (λ (x : ℕ). sumIn p (a .work .now) k + x) (conv-cong (p .n) (λ i b. refl) (λ i b. sym (mask-at p (a .work .now) (s .pre .0 .2) b)) k)));
     }
+
+multiply-add-requires : tie.Need-multiply-add-requires
+multiply-add-requires c κs =
+    let s = start c in
+    let a = s .args in
+    let p = setFrom (a .p) in
+    let set = accepted-set p (s .pre .0 .0) in
+    let room = work-words p (a .work .now) (s .pre .0 .1) in
+    let inside = part-room (p .n) (a .j) 6 (s .pre .0 .2) in (
+      (omega arith, omega arith, omega arith, set .ring-most, modulus-positive p set, omega arith, omega (arith, set .modulus-most)),
+      (s .pre .1 .0, λ k l. rw (← mask-at p (a .work .now) (s .pre .0 .2) l) (s .pre .1 .1 k l), s .pre .1 .2),
+    )
 
 pub multiply-mask-spec : {M : Type 1} → statement M
 multiply-mask-spec =

@@ -1,10 +1,12 @@
--- `products::fold_sums` meets its contract: a turn adds the two sums that fold to its place to the word that stands there.
+-- `products::fold_sums` meets its contract: a turn reduces the two sums that fold to its place, and adds the coefficient that stands there.
 -- Assumes nothing.
+use native.Mathlib.Nat.{mod-lt, mod-add-mod}
 use native.Mathlib.Omega.{arith}
-use Prim.Native.Nat.{ℕ, _+_, _-_, _%_, _≤_}
+use Prim.Native.Nat.{ℕ, _+_, _-_, _%_}
+use mathlib.Core.Path.{_∙_, ap}
 use lib.ListN.{getD}
 use Rattle.ring.specs.Work.{part}
-use Rattle.ring.proofs.Work.{WritingWords, writing-none, writing-one, writing-all}
+use Rattle.ring.proofs.Work.{WritingWords, writing-none, writing-one, writing-own-ring, writing-all}
 use Rattle.products.proofs.fold_sums.Statement.{statement}
 use Rattle.products.proofs.fold_sums.Tie as tie
 
@@ -14,35 +16,34 @@ Inv-loop work₀ c n modulus low k₀ work k = WritingWords c n (λ j. (getD low
 abbrev μ-loop : tie.MeasureT-loop
 μ-loop work₀ c n modulus low k₀ work k = n - k
 
+abbrev start : tie.In-loop Inv-loop μ-loop → tie.Start Inv-loop μ-loop
+start c = c .before .before .before .before
+
 loop-holds : tie.Need-loop-holds Inv-loop μ-loop
 loop-holds c = writing-none (omega arith)
 
--- the sums of this turn leave room for a word of 32 bits
-room : (c : tie.In-loop Inv-loop μ-loop) → let l = c .before .before .before .before .args .low .now in
-    getD l (c .before .loop .k) 0 + getD l (c .before .before .before .before .args .n + c .before .loop .k) 0 ≤ 18446744069414584320
-room c = c .before .before .before .before .pre .1 (c .before .loop .k) (omega arith)
-
-add-s-2 : tie.Need-add-s-2 Inv-loop μ-loop
-add-s-2 c = omega (arith, room (c .before .before))
-
-cast-s : tie.Need-cast-s Inv-loop μ-loop
-cast-s c = omega (
-  arith,
-  c .slice-known2 .given
-      (c .before .before .before .before .before .before .before .args .c + c .before .before .before .before .loop .k),
-)
-
-add-s-4 : tie.Need-add-s-4 Inv-loop μ-loop
-add-s-4 c =
-    let t = c .before .before .before in
-    omega (arith, room t, c .slice-known2 .given (t .before .before .before .before .args .c + t .before .loop .k))
-
 loop-again : tie.Need-loop-again Inv-loop μ-loop
 loop-again c =
-    let at-loop = c .before .before .before .before .before in
-    let a = at-loop .before .before .before .args in
+    let r = c .before .before in
+    let t = r .before .before .before in
+    let a = start t .args in
+    let q = a .modulus .q in
     let f : ℕ → ℕ = λ j. getD (a .low .now) j 0 in
-    writing-one (λ j x. (f j + f (a .n + j) + x) % a .modulus .q) (at-loop .loop .inv) (omega arith) (c .remainder .ensures)
+    let k = t .before .loop .k in
+    let x = part (t .before .loop .work) (a .c) k in
+    writing-one (λ j x. (f j + f (a .n + j) + x) % q) (t .before .loop .inv) (omega arith)
+    (c .sum .ensures ∙ ap (λ (s : ℕ). (s + x) % q) (r .remainder .ensures) ∙ mod-add-mod (f k + f (a .n + k)) q x)
+
+add-remainder-2 : tie.Need-add-remainder-2 Inv-loop μ-loop
+add-remainder-2 c =
+    let t = c .before .before in
+    omega (arith, start t .pre .1 (t .before .loop .k) (omega arith))
+
+sum-requires : tie.Need-sum-requires Inv-loop μ-loop
+sum-requires c κs =
+    let t = c .before .before .before .before in
+    let pre = start t .pre .0 in
+    (rw (c .before .remainder .ensures) (mod-lt _ (pre .2 .least)), writing-own-ring (t .before .loop .inv) (pre .3) (omega arith), pre .2 .most)
 
 returns : tie.Need-returns Inv-loop μ-loop
 returns c = writing-all (c .before .loop .inv) (omega arith)
@@ -50,6 +51,6 @@ returns c = writing-all (c .before .loop .inv) (omega arith)
 pub fold-sums-spec : {M : Type 1} → statement M
 fold-sums-spec =
     tie.close
-    (tie.spec Inv-loop μ-loop loop-holds (λ c. omega arith) (λ c. omega arith) (λ c. omega arith) (λ c. omega arith) (λ c. omega arith) add-s-2
-    (λ c. omega arith) (λ c. omega arith) (λ c. omega arith) cast-s add-s-4 (λ c κs. omega arith) (λ c. omega arith) (λ c. omega arith)
+    (tie.spec Inv-loop μ-loop loop-holds (λ c. omega arith) (λ c. omega arith) (λ c. omega arith) (λ c. omega arith) (λ c. omega arith) add-remainder-2
+    (λ c κs. omega arith) (λ c. omega arith) (λ c. omega arith) (λ c. omega arith) sum-requires (λ c. omega arith) (λ c. omega arith)
     (λ c. omega arith) (λ c. omega arith) (λ c. omega arith) loop-again (λ c. omega arith) returns)

@@ -31,6 +31,7 @@ within c =
       reciprocal = r .1;
       first-ring = λ k l. omega (arith, r .0, pre .1 .0 k l);
       second-ring = pre .1 .1;
+      third-ring = λ k l. omega (arith, r .0, pre .1 .2 k l);
     }
 
 short-requires : tie.Need-short-requires

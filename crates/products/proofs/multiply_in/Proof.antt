@@ -3,6 +3,7 @@
 use native.Mathlib.Omega.{arith}
 use Prim.Native.Nat.{_+_}
 use Rattle.ring.specs.Work.{part}
+use Rattle.karatsuba.proofs.Steps.{multiplied-ring}
 use Rattle.products.proofs.Loading.{Loaded, loaded-both, loaded-below}
 use Rattle.products.proofs.Folding.{product-added}
 use Rattle.products.proofs.multiply_in.Statement.{statement}
@@ -58,8 +59,23 @@ returns c =
     (part (multiplied .multiply .last .0) (m + m)) (s .pre .1 .enough) (both .0) (both .1) (multiplied .multiply .ensures .same) (p .c) w
     (folded .fold .ensures)
 
+fold-requires : tie.Need-fold-requires
+fold-requires c κs =
+    let multiplied = c .before .before .before .before in
+    let copied = second multiplied in
+    let s = start (first copied) in
+    let within = s .pre .0 in
+    let enough = s .pre .1 .enough in
+    let long = first copied .copy-from .kept in
+    let long2 = copied .copy-from2 .kept in
+    let long3 = multiplied .multiply .kept in
+    let product = multiplied-ring (within .reciprocal .least) (multiplied .multiply .ensures) in (
+      (within .third, omega (arith, s .pre .2), within .reciprocal .most),
+      (within .third-ring, λ k l. product k (omega arith)),
+    )
+
 pub multiply-in-spec : {M : Type 1} → statement M
 multiply-in-spec =
     tie.close
     (tie.spec (λ c. omega arith) (λ c. omega arith) (λ c κs. omega arith) (λ c κs. omega arith) multiply-requires
-    (λ c κs. omega arith) (λ c. omega arith) (λ c. omega arith) returns)
+    fold-requires (λ c. omega arith) (λ c. omega arith) returns)

@@ -1,5 +1,6 @@
 -- `ring::negate` meets its contract: a turn negates the coefficient of its place, which no turn before it has written.
 -- Assumes nothing.
+use native.Mathlib.Nat.{zero-add}
 use native.Mathlib.Omega.{arith}
 use borrow.Author.Needs.{needs}
 use Prim.Native.Nat.{ℕ, _-_, _%_}
@@ -20,14 +21,18 @@ start c = c .before .before .before
 loop-holds : tie.Need-loop-holds Inv-loop μ-loop
 loop-holds c = writing-none (omega arith)
 
-negative-requires : tie.Need-negative-requires Inv-loop μ-loop
-negative-requires c κs = let t = c .before in writing-own-ring (t .before .loop .inv) (start t .pre .1) (t .loop-test .taken)
-
 loop-again : tie.Need-loop-again Inv-loop μ-loop
 loop-again c =
     let t = c .before .before in
     let q = start t .args .q in
-    writing-one (λ j x. (q - x) % q) (t .before .loop .inv) (t .loop-test .taken) (c .negative .ensures)
+    writing-one (λ j x. (q - x) % q) (t .before .loop .inv) (t .loop-test .taken) (rw zero-add at (c .difference .ensures))
+
+difference-requires : tie.Need-difference-requires Inv-loop μ-loop
+difference-requires c κs =
+    let t = c .before in
+    let pre = start t .pre in
+    let below = writing-own-ring (t .before .loop .inv) (pre .2) (t .loop-test .taken) in
+    (omega arith, below, pre .1)
 
 returns : tie.Need-returns Inv-loop μ-loop
 returns c = writing-all (c .before .loop .inv) (omega arith)
@@ -35,5 +40,5 @@ returns c = writing-all (c .before .loop .inv) (omega arith)
 pub negate-spec : {M : Type 1} → statement M
 negate-spec =
     tie.close
-    (tie.spec Inv-loop μ-loop loop-holds (λ c. search needs) (λ c. search needs) (λ c. search needs) negative-requires (λ c. search needs)
+    (tie.spec Inv-loop μ-loop loop-holds (λ c. search needs) (λ c. search needs) (λ c. search needs) difference-requires (λ c. search needs)
     (λ c. search needs) (λ c. search needs) (λ c. search needs) (λ c. search needs) loop-again (λ c. search needs) returns)

@@ -1,22 +1,22 @@
--- `ring::sum` meets its contract: a sum of two numbers below q is below 2q, so at most one q is to be taken off. Taking it off wraps just where it
--- was not to be taken, and the highest bit tells, since q is below 2^31.
+-- `ring::sum` meets its contract: its formula is the sum modulo q, and no step of it wraps.
 -- Assumes nothing.
-use Prim.Native.Nat.{_+_, _-_, _<_}
-use native.Mathlib.Nat.{mod-eq-of-lt, mod-eq-sub-mod}
+use Prim.Native.Nat.{_+_}
 use native.Mathlib.Omega.{arith}
-use mathlib.Core.Path.{_≡_, sym, _∙_}
 use borrow.Author.Needs.{needs}
+use Rattle.ring.specs.Coefficients.{shiftSum}
+use Rattle.ring.proofs.Coefficients.{bit-product-fits, bit-product-covered, shiftSum-modulo}
 use Rattle.ring.proofs.sum.Statement.{statement}
 use Rattle.ring.proofs.sum.Tie as tie
 
 returns : tie.Need-returns
-returns c =
-    let a = c .before .before .args in
-    let e : c .before .wrapping-sub-u32 .result ≡ a .a + a .b - a .q = omega arith in
-    e ∙ sym (mod-eq-sub-mod (omega arith) ∙ mod-eq-of-lt (omega arith))
+unfolding shiftSum
+returns c = shiftSum-modulo (c .args .q) (c .args .a) (c .args .b) (c .pre .0) (c .pre .1) (c .pre .2)
 
-returns-2 : tie.Need-returns-2
-returns-2 c = sym (mod-eq-of-lt (omega arith))
+mul-result : tie.Need-mul-result
+mul-result c = record { fits = bit-product-fits (c .args .q) (omega arith) (omega arith) }
+
+sub-result-2 : tie.Need-sub-result-2
+sub-result-2 c = bit-product-covered (c .args .q) (c .args .a + c .args .b) (omega arith) (omega arith) (omega arith)
 
 pub sum-spec : {M : Type 1} → statement M
-sum-spec = tie.close (tie.spec (λ c. search needs) (λ c κs. search needs) returns returns-2)
+sum-spec = tie.close (tie.spec (λ c. search needs) (λ c. search needs) (λ c. search needs) mul-result sub-result-2 returns)

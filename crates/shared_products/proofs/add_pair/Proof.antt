@@ -58,7 +58,7 @@ diagonal-at-requires-2 : tie.Need-diagonal-at-requires-2
 diagonal-at-requires-2 c κs = let s = start (c .before .before .before) in (s .pre .0 .inputs .set, place-few (s .pre .0 .inputs) (second s))
 
 multiply-sums-requires : tie.Need-multiply-sums-requires
-multiply-sums-requires c κs = let s = begin (c .before) in (s .pre .0 .inputs, s .pre .1, s .pre .2)
+multiply-sums-requires c κs = let s = begin (c .before) in (s .pre .0 .inputs, s .pre .1, s .pre .2, s .pre .0 .below)
 
 subtract-from-requires : tie.Need-subtract-from-requires
 subtract-from-requires c κs =

@@ -91,7 +91,7 @@ multiply-mask-requires c κs =
     let g = s .pre .0 in
     let pos = modulus-positive _ (shared-set g) in (
       (g .set, stand (added c) .as-long ∙ g .work-exact, place-few g (s .pre .1)),
-      sums-below (place-few g (s .pre .1)) (s .pre .2) pos (λ k l. mod-lt _ pos) (stand (added c)),
+      sums-below (place-few g (s .pre .1)) (s .pre .2) pos (λ k l. mod-lt _ pos) (s .pre .3) (stand (added c)),
     )
 
 subtract-requires : tie.Need-subtract-requires

@@ -8,12 +8,13 @@ use borrow.Author.Needs.{needs}
 use Rattle.definitions.specs.Parameters.{monomialCount}
 use Rattle.definitions.specs.Ring.{conv}
 use Rattle.definitions.specs.Calls.{polynomialFrom}
+use Rattle.definitions.proofs.Parameters.{modulus-positive}
 use Rattle.definitions.proofs.Ring.{conv-cong}
 use Rattle.parameters.specs.Answers.{setFrom}
 use Rattle.ring.proofs.Work.{Wrote, wrote}
 use Rattle.karatsuba.proofs.Steps.{inside-ring}
 use Rattle.mask_products.specs.Products.{maskIn, KeyAndMask, SumIs}
-use Rattle.mask_products.proofs.Sums.{part-room, inputs-room, key-few, key-below, inputs-kept, spare-mask, sum-then, gains-spare}
+use Rattle.mask_products.proofs.Sums.{part-room, inputs-set, inputs-room, key-few, key-below, inputs-kept, spare-mask, spare-sum, sum-inRing, sum-then, gains-spare}
 use Rattle.shared_products.proofs.Terms.{element-prepared}
 use Rattle.shared_products.proofs.prepare_element.Statement.{statement}
 use Rattle.shared_products.proofs.prepare_element.Tie as tie
@@ -74,7 +75,11 @@ multiply-mask-requires c κs =
     let w = filled call in
     let low = subst (λ (d : ℕ). s .args .i < monomialCount d) (s .pre .0 .1) (s .pre .0 .2) in (
       (g .set, w .as-long ∙ g .work-exact, key-few g (s .pre .0 .2)),
-      (inside-ring w (key-below g (s .args .i) (s .pre .0 .2)), λ k l. rw (spare-mask (setFrom (s .args .p)) w) (g .mask (s .args .i) low k l)),
+      (
+        inside-ring w (key-below g (s .args .i) (s .pre .0 .2)),
+        λ k l. rw (spare-mask (setFrom (s .args .p)) w) (g .mask (s .args .i) low k l),
+        spare-sum (setFrom (s .args .p)) w (sum-inRing (modulus-positive _ (inputs-set g)) (cleared call .clear-sum .ensures)),
+      ),
     )
 
 -- the product of the key's element and the mask's

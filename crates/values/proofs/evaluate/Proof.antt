@@ -70,13 +70,22 @@ taken : (c : tie.Else1 Inv-loop μ-loop) → let a = start (turn c) .args in
     Placed (a .n) (3 * a .n) (λ k. row k % a .q) (l .work) (c .before .before .before .row .last .1 .1 .1 .1 .1 .1 .0)
 taken c = c .before .before .before .row .ensures .1 (c .if1 .left)
 
+-- with u_x as it was at the start
+same : (c : tie.Else1 Inv-loop μ-loop) → let a = start (turn c) .args in
+    let l = turn c .before .loop in
+    let f = polynomialIn (a .n) (a .qlen) (a .octets .now) in
+    (k : ℕ) → k < a .n → rowOf (a .n) (a .d) f (part (l .work) 0) (l .t) k % a .q ≡ rowOf (a .n) (a .d) f (part (a .work .now) 0) (l .t) k % a .q
+same c k m =
+    let a = start (turn c) .args in
+    ap (λ (x : ℕ). x % a .q) (row-cong (a .n) (a .d) (polynomialIn (a .n) (a .qlen) (a .octets .now)) (turn c .before .loop .t) (same-x (turn c)) k m)
+
 step-requires : tie.Need-step-requires Inv-loop μ-loop
 step-requires c κs =
     let p = start (turn (c .before)) .pre in
     let l = turn (c .before) .before .loop .inv .1 in
     let long = taken (c .before) .as-long ∙ l .as-long ∙ p .0 .0 .room in (
       (omega arith, omega arith, omega (arith, long), p .0 .0 .most, p .0 .3, p .0 .4),
-      hornerAt-ready (omega arith, omega arith) l (taken (c .before)) (omega (arith, p .0 .3)) (p .1 .1),
+      hornerAt-ready (omega arith, omega arith) l (taken (c .before)) (omega (arith, p .0 .3)) (p .1 .1) (same (c .before)),
     )
 
 add-t : tie.Need-add-t Inv-loop μ-loop
@@ -91,11 +100,9 @@ loop-again c =
     let a = start l .args in
     let r = l .before .loop in
     let zero = sym (passed c .before .before .before .row .ensures .0) ∙ passed c .if1 .left in
-    let fit = number-fits (rowFits (a .d) (fitsAt (a .q) (a .n) (a .qlen) (a .octets .now)) (r .t)) zero in
-    let f = polynomialIn (a .n) (a .qlen) (a .octets .now) in (
+    let fit = number-fits (rowFits (a .d) (fitsAt (a .q) (a .n) (a .qlen) (a .octets .now)) (r .t)) zero in (
       omega (arith, l .loop-test .taken),
-      hornerAt-next (omega arith, omega arith) (r .inv .1) (taken (passed c)) fit
-          (λ k m. ap (λ (x : ℕ). x % a .q) (row-cong (a .n) (a .d) f (r .t) (same-x l) k m)) (c .before .before .step .ensures),
+      hornerAt-next (omega arith, omega arith) (r .inv .1) (taken (passed c)) fit (same (passed c)) (c .before .before .step .ensures),
     )
 
 returns-2 : tie.Need-returns-2 Inv-loop μ-loop

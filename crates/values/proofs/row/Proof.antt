@@ -1,6 +1,6 @@
 -- `row` takes a term of the row a turn, one total degree lower each time.
 -- Assumes nothing.
-use Prim.Native.Nat.{ℕ, suc, _+_, _-_, _*_, _≤_, _<_}
+use Prim.Native.Nat.{ℕ, suc, _+_, _-_, _*_, _%_, _≤_, _<_}
 use native.Mathlib.Omega.{arith}
 use mathlib.Core.Path.{_≡_, sym, ap, _∙_}
 use mathlib.Core.Bool.{true, false}
@@ -91,13 +91,22 @@ fitting c =
     let e = sym (c .before .before .before .read-element .ensures .0) ∙ c .if1 .left in
     rw (here (turn c)) at (number-fits (fitsAt (a .q) (a .n) (a .qlen) (a .octets .now) (turn c .before .loop .first + (a .d - a .t))) e)
 
+-- so it is an element of R_q
+same : (c : tie.Else1 Inv-loop μ-loop) → let a = start (turn c) .args in
+    let l = turn c .before .loop in
+    let f = polynomialIn (a .n) (a .qlen) (a .octets .now) in
+    (k : ℕ) → k < a .n → f (l .first + (a .d - a .t)) k ≡ f (termPlace (a .d) (a .t) (l .s)) k % a .q
+same c k m =
+    let a = start (turn c) .args in
+    rw (here (turn c)) (element-fits (a .q) (a .n) (a .qlen) (a .octets .now) _ (fitting c) k m)
+
 step-requires : tie.Need-step-requires Inv-loop μ-loop
 step-requires c κs =
     let s = start (turn (c .before)) in
     let l = turn (c .before) .before .loop .inv .2 in
     let long = read (c .before) .as-long ∙ l .as-long ∙ s .pre .0 .0 .room in (
       (omega arith, omega arith, omega (arith, long), s .pre .0 .0 .most, s .pre .0 .4, s .pre .0 .5),
-      hornerAt-ready (omega arith, omega arith) l (read (c .before)) (omega (arith, s .pre .0 .4)) (s .pre .1),
+      hornerAt-ready (omega arith, omega arith) l (read (c .before)) (omega (arith, s .pre .0 .4)) (s .pre .1) (same (c .before)),
     )
 
 add-first : tie.Need-add-first Inv-loop μ-loop
@@ -124,8 +133,7 @@ loop-again c =
     let r = l .before .loop in (
       omega (arith, l .loop-test .taken),
       ap (λ (x : ℕ). x + (a .d + 1 - r .s)) (r .inv .1) ∙ sym (starts-suc (a .d) (r .s)),
-      hornerAt-next (omega arith, omega arith) (r .inv .2) (read (passed c)) (fitting (passed c))
-          (λ k m. rw (here l) (element-fits (a .q) (a .n) (a .qlen) (a .octets .now) _ (fitting (passed c)) k m)) (c .before .before .step .ensures),
+      hornerAt-next (omega arith, omega arith) (r .inv .2) (read (passed c)) (fitting (passed c)) (same (passed c)) (c .before .before .step .ensures),
     )
 
 returns-2 : tie.Need-returns-2 Inv-loop μ-loop

@@ -12,7 +12,7 @@ use Rattle.values.proofs.step.Tie as tie
 multiply-add-requires : tie.Need-multiply-add-requires
 multiply-add-requires c κs =
     let s = c .before .before .before in
-    ((omega arith, omega arith, omega arith, s .pre .0 .3, omega arith, s .pre .0 .4, s .pre .0 .5), (s .pre .1 .0 (c .before .if1 .taken), s .pre .1 .1))
+    ((omega arith, omega arith, omega arith, s .pre .0 .3, omega arith, s .pre .0 .4, s .pre .0 .5), (s .pre .1 .0 (c .before .if1 .taken), s .pre .1 .1, s .pre .1 .2))
 
 added : (c : tie.Joined1) →
     let a = c .before .before .args in

@@ -13,6 +13,11 @@ use differential::compare::{
 use differential::inputs;
 use differential::run::Run;
 use differential::sets::MOST_Q;
+use differential::sums::{
+    mixed_summands, packed, polynomial, powers_of_t, rest, summand, summands, totals, turned_back,
+    Elements,
+};
+use reference::monomials::{count, position};
 use reference::octets::{numbers_from_octets, numbers_to_octets, pack};
 use reference::set::{bit_length, bound, set};
 use reference::Set;
@@ -45,6 +50,15 @@ const SMALL: [Set; 14] = [
 const LARGE: [(&str, Set); 2] = [
     ("n1201", set(4, 467_424_413, 1201, 1, 1, 2402)),
     ("n4096", set(2, 100_679_693, 4096, 1, 1, 4000)),
+];
+
+/// A set for each q at which sums of two coefficients are tried.
+const SUMS: [Set; 5] = [
+    set(2, 36, 2, 1, 1, 2),
+    set(4, 65_535, 8, 1, 1, 16),
+    set(2, 65_536, 8, 2, 2, 8),
+    set(16, 16_777_216, 8, 1, 1, 32),
+    set(8, MOST_Q, 8, 1, 2, 24),
 ];
 
 fn hex(octets: &[u8]) -> String {
@@ -639,6 +653,105 @@ fn decryptions(directory: &Path) {
     file.write(directory);
 }
 
+/// The four sums by turns, and in one buffer those that are even.
+fn sums_in_additions(file: &mut Answers, set: Set) {
+    let octets = |words: &[u32]| numbers_to_octets(set.qlen(), words);
+    let (places, prng) = (set.ciphertext_words(), &mut file.run.prng);
+    let [a, b] = mixed_summands(set.q, &totals(set.q), places, prng);
+    file.add(set, &octets(&a), &octets(&b), set.ciphertext_octets());
+    let even = totals(set.q).into_iter().filter(|x| x.is_multiple_of(2));
+    let halves: Vec<u32> = even.map(|x| (x / 2) as u32).collect();
+    let half: Vec<u32> = halves.into_iter().cycle().take(places).collect();
+    file.double(set, &octets(&half), set.ciphertext_octets());
+}
+
+/// The secret key (t^(n - 1), t), and a polynomial whose value there is the sum of the three lists, place
+/// by place.
+fn meeting(set: Set, degree: u32, [x, y, constant]: [Vec<u32>; 3]) -> (Vec<u8>, Vec<u8>) {
+    let powers = [set.places() - 1, 1];
+    let elements = vec![
+        (position(degree, 1, 0), turned_back(&x, powers[0])),
+        (position(degree, 0, 1), turned_back(&y, powers[1])),
+        (count(degree) - 1, constant),
+    ];
+    let small = powers.map(|power| powers_of_t(set, &[power]));
+    (packed(set, &small), polynomial(set, degree, &elements))
+}
+
+/// The four sums by turns, as w, and in a key with a constant that brings each to 0.
+fn sums_at_all_places(file: &mut Answers, set: Set) {
+    for some in totals(set.q).chunks(set.places().min(4)) {
+        let [x, y] = mixed_summands(set.q, some, set.places(), &mut file.run.prng);
+        let zeros = vec![0; set.places()];
+        let (secret_key, ciphertext) = meeting(set, set.d(), [x.clone(), y.clone(), zeros]);
+        file.decrypt(set, &secret_key, &ciphertext, DecryptLengths::of(set));
+        let q = u64::from(set.q);
+        let lacks = some.iter().map(|total| (2 * q - total) % q);
+        let constant = lacks.map(|x| x as u32).cycle().take(set.places());
+        let (secret_key, public_key) = meeting(set, set.dx, [x, y, constant.collect()]);
+        file.is_zero(set, &secret_key, &public_key, set.work_words());
+    }
+}
+
+/// A key in which each place has a sum of q, but for one that has the total.
+fn sum_at_one_place(file: &mut Answers, set: Set, total: u64, place: usize) {
+    let (q, prng) = (u64::from(set.q), &mut file.run.prng);
+    let [mut x, mut y] = summands(set.q, q, set.places(), prng);
+    x[place] = summand(set.q, total, place, prng);
+    y[place] = rest(total, &x[place..=place])[0];
+    let zeros = vec![0; set.places()];
+    let (secret_key, public_key) = meeting(set, set.dx, [x, y, zeros]);
+    file.is_zero(set, &secret_key, &public_key, set.work_words());
+}
+
+/// What encrypt makes of X and r, and of e and m at the constant alone.
+fn encrypted_parts(file: &mut Answers, set: Set, [key, r]: [Elements; 2], [e, m]: [u32; 2]) {
+    let mut noise = vec![vec![0; set.places()]; count(set.d())];
+    noise[count(set.d()) - 1].fill(e);
+    let random = [polynomial(set, set.dr, &r), packed(set, &noise)].concat();
+    let message = pack(set.b(), &vec![m; set.places()], set.message_octets());
+    let public_key = polynomial(set, set.dx, &key);
+    file.encrypt(set, &public_key, &message, &random, EncryptLengths::of(set));
+}
+
+/// The four sums by turns as two products of x y; a product with l * e, and with m, in the sums that can
+/// be.
+fn sums_in_encryptions(file: &mut Answers, set: Set) {
+    let at_both = |degree, [x, y]: [Vec<u32>; 2]| {
+        vec![(position(degree, 1, 0), x), (position(degree, 0, 1), y)]
+    };
+    let one = powers_of_t(set, &[0]);
+    let (list, prng) = (totals(set.q), &mut file.run.prng);
+    let key = at_both(set.dx, mixed_summands(set.q, &list, set.places(), prng));
+    let r = at_both(set.dr, [one.clone(), one.clone()]);
+    encrypted_parts(file, set, [key, r], [0, 0]);
+    for (factor, small) in [(set.l, [1, 0]), (1, [0, 1])] {
+        let rests = list.into_iter().map(|total| total - u64::from(factor));
+        let below: Vec<u64> = rests.filter(|&x| x < u64::from(set.q)).collect();
+        let product = below.into_iter().map(|x| x as u32).cycle();
+        let key = vec![(count(set.dx) - 1, product.take(set.places()).collect())];
+        let r = vec![(count(set.dr) - 1, one.clone())];
+        encrypted_parts(file, set, [key, r], small);
+    }
+}
+
+fn sums(directory: &Path) {
+    let mut file = Answers::new("sums");
+    for set in SUMS {
+        sums_in_additions(&mut file, set);
+        sums_at_all_places(&mut file, set);
+        let (n, [below, _, above, largest]) = (set.places(), totals(set.q));
+        for (total, place) in [(below, 0), (above, n / 2), (largest, n - 1)] {
+            sum_at_one_place(&mut file, set, total, place);
+        }
+        sums_in_encryptions(&mut file, set);
+    }
+    let large = set(2, 65_535, 81, 1, 1, 81);
+    sums_at_all_places(&mut file, large);
+    sum_at_one_place(&mut file, large, 65_536, 80);
+    file.write(directory);
+}
+
 fn words_of(file: &mut Answers, kind: Kind, set: Set) -> Vec<u32> {
     let limit = kind.limit(set);
     let any = |_| file.run.prng.below(u64::from(limit)) as u32;
@@ -751,6 +864,7 @@ fn main() {
     let [others @ .., secret_key] = KINDS;
     conversions(directory, "conversions", &others);
     conversions(directory, "secret_key_conversions", &[secret_key]);
+    sums(directory);
     for (name, set) in LARGE {
         large(directory, name, set);
     }

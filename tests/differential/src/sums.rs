@@ -1,0 +1,116 @@
+//! Pairs of coefficients with a sum of q - 1, q, q + 1 or 2q - 2, and polynomials and secret keys by
+//! which they meet inside a call.
+
+use reference::monomials::count;
+use reference::octets::{numbers_to_octets, pack};
+use reference::prng::Prng;
+use reference::set::set;
+use reference::Set;
+
+use crate::sets::{bits_of, least_q, DEGREES, MOST_Q, RANGES};
+
+/// The least accepted q of all, 2^16 and the number before it, 2^24, and the largest q.
+pub const MODULI: [u32; 5] = [36, 65_535, 65_536, 16_777_216, MOST_Q];
+
+/// The accepted sets with this q, n 2, 8 or 81 and full messages.
+pub fn sets_of(q: u32) -> Vec<Set> {
+    let mut list = Vec::new();
+    for n in [2, 8, 81] {
+        for l in RANGES {
+            for (dx, dr) in DEGREES {
+                if least_q(l, n, dx + dr).is_some_and(|least| least <= q) {
+                    list.push(set(l, q, n, dx, dr, n * bits_of(l)));
+                }
+            }
+        }
+    }
+    list
+}
+
+/// The sums of two coefficients at the limits of a reduction.
+pub fn totals(q: u32) -> [u64; 4] {
+    let q = u64::from(q);
+    [q - 1, q, q + 1, 2 * q - 2]
+}
+
+/// A coefficient that another one brings to the total: by turns the least, the next, the middle, the
+/// largest and any.
+pub fn summand(q: u32, total: u64, turn: usize, prng: &mut Prng) -> u32 {
+    let top = u64::from(q) - 1;
+    let (least, largest) = (total.saturating_sub(top), total.min(top));
+    let found = match turn % 5 {
+        0 => least,
+        1 => largest.min(least + 1),
+        2 => total / 2,
+        3 => largest,
+        _ => least + prng.below(largest - least + 1),
+    };
+    found as u32
+}
+
+/// What each of these lacks to the total.
+pub fn rest(total: u64, summands: &[u32]) -> Vec<u32> {
+    let lacks = |&x| (total - u64::from(x)) as u32;
+    summands.iter().map(lacks).collect()
+}
+
+/// Two lists of coefficients that give the total at each place.
+pub fn summands(q: u32, total: u64, places: usize, prng: &mut Prng) -> [Vec<u32>; 2] {
+    let turn = prng.below(5) as usize;
+    let first: Vec<u32> = (turn..turn + places)
+        .map(|turn| summand(q, total, turn, prng))
+        .collect();
+    let second = rest(total, &first);
+    [first, second]
+}
+
+/// The same for several totals by turns.
+pub fn mixed_summands(q: u32, totals: &[u64], places: usize, prng: &mut Prng) -> [Vec<u32>; 2] {
+    let (mut first, mut second) = (Vec::new(), Vec::new());
+    for place in 0..places {
+        let (turn, which) = (place / totals.len(), place % totals.len());
+        first.push(summand(q, totals[which], turn, prng));
+        second.extend(rest(totals[which], &first[place..]));
+    }
+    [first, second]
+}
+
+/// The element times t^power.
+pub fn turned(element: &[u32], power: usize) -> Vec<u32> {
+    let mut found = element.to_vec();
+    found.rotate_right(power % element.len());
+    found
+}
+
+/// The element that gives these numbers when it is multiplied by t^power.
+pub fn turned_back(numbers: &[u32], power: usize) -> Vec<u32> {
+    turned(numbers, numbers.len() - power % numbers.len())
+}
+
+/// The sum of these powers of t, or 0 where there are none.
+pub fn powers_of_t(set: Set, powers: &[usize]) -> Vec<u32> {
+    let mut element = vec![0; set.places()];
+    for power in powers {
+        element[power % set.places()] += 1;
+    }
+    element
+}
+
+/// Elements with their places in monomial order.
+pub type Elements = Vec<(usize, Vec<u32>)>;
+
+/// The octets of a polynomial in which all but these elements are zero.
+pub fn polynomial(set: Set, degree: u32, elements: &Elements) -> Vec<u8> {
+    let n = set.places();
+    let mut words = vec![0; count(degree) * n];
+    for (at, element) in elements {
+        words[at * n..][..n].copy_from_slice(element);
+    }
+    numbers_to_octets(set.qlen(), &words)
+}
+
+/// The packed octets of small elements, one after another.
+pub fn packed(set: Set, elements: &[Vec<u32>]) -> Vec<u8> {
+    let pack = |element: &Vec<u32>| pack(set.b(), element, set.small_octets());
+    elements.iter().flat_map(pack).collect()
+}
