@@ -10,7 +10,7 @@ use Prim.Native.Nat.{ℕ, _+_, _-_, _*_, _/_, _%_, _≤_, _<_}
 use native.Mathlib.Nat.{mod-eq-of-lt, mod-eq-sub-mod}
 use native.Mathlib.Decide.{decLt}
 use native.Mathlib.Omega.{arith}
-use mathlib.Core.Path.{_≡_, refl, sym, _∙_}
+use mathlib.Core.Path.{_≡_, refl, _∙_}
 use mathlib.Core.Bool.{true}
 use Rattle.definitions.specs.Sequences.{sum}
 use Rattle.definitions.specs.Refusals.{firstRefusal}
@@ -54,11 +54,8 @@ shift-sums p set a b h g = shiftSum-modulo (p .q) a b h g (omega (arith, accepte
 -- ---- the difference
 
 pub difference-covered : (q a b : ℕ) {x : ℕ} → x < 4294967296 → x ≤ a + (2147483648 - b) → b ≤ q → q ≤ 2147483648 → b ≤ a + (q - q * (x / 2147483648))
-difference-covered q a b {x} word most h l =
-    elim (decLt x 2147483648) [
-      | yes s ↦ let bit : x / 2147483648 ≡ 0 = omega arith in rw bit (omega arith)
-      | no s ↦ let bit : x / 2147483648 ≡ 1 = omega arith in rw bit (omega arith)
-    ]
+difference-covered q a b word most h l =
+    omega (arith, bit-product q (a + q - b) word (λ g. omega arith), bit-product-le q word)
 
 pub difference-modulo : (q a b : ℕ) → a < q → b < q → q < 2147483648
     → a + (q - q * ((a + (2147483648 - b)) / 2147483648)) - b ≡ (a + (q - b)) % q
