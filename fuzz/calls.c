@@ -367,8 +367,8 @@ static uint32_t fit_summand(struct buffer *y, const struct buffer *x, uint32_t s
 
 /* Of a packed argument and one of coefficients: padding comes first. */
 static uint32_t fit_both(struct buffer *packed, size_t used_bits, struct buffer *b, uint32_t size, uint32_t limit) {
-    uint32_t padding = fit_packed(packed, used_bits), coefficient = fit_coefficients(b, size, limit);
-    return padding != 0 ? padding : coefficient;
+    uint32_t padding = fit_packed(packed, used_bits), reached = fit_coefficients(b, size, limit);
+    return padding != 0 ? padding : reached;
 }
 
 /* ---- the calls ---- */

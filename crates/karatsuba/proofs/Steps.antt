@@ -9,7 +9,6 @@ use lib.ListN.{length, getD}
 use Rattle.definitions.specs.Sequences.{tabulate}
 use Rattle.definitions.specs.Ring.{InRing}
 use Rattle.ring.specs.Work.{part, written, elementAdded, elementTaken}
-use Rattle.ring.specs.Linear.{linear}
 use Rattle.ring.proofs.Work.{Wrote, wrote}
 use Rattle.karatsuba.specs.Products.{Multiplied, BoundsSums, HalvesAdded, Joined}
 
@@ -37,7 +36,7 @@ inside-ring w ring k l = rw (w .inside k l) (ring k l)
 
 -- a product is reduced
 pub multiplied-ring : {q m a b at free : ℕ} {old new : List ℕ} → 0 < q → Multiplied q m a b at free old new → InRing q (m + m) (part new at)
-multiplied-ring {m = m} {a = a} {b = b} {old = old} pos p k l = rw (p .same k l) (mod-lt (linear m (part old a) (part old b) k) pos)
+multiplied-ring pos p k l = rw (p .same k l) (mod-lt _ pos)
 
 -- ---- the bound of a sum
 pub doubled-small : {q top : ℕ} → top < q - top → BoundsSums q top (top + top)

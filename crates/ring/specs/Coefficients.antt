@@ -1,19 +1,18 @@
--- 02, Q-4: the sum of two coefficients by sums, differences, products and shifts alone.
+-- 02, Q-4: the sum of two coefficients by sums, differences, products and shifts alone. It is the formula of `ring::sum`.
 --
 --   shiftSum         a + b, and q taken off where bit 31 of a + b + (2^31 - q) is 1 (a shift by 31 is the quotient by 2^31)
 --   ShiftSums        for every q of an accepted set and every pair below q this is the sum modulo q
 --   leastSet         ℓ 2, n 2, dX 1, dr 1, mlen 2: accepted with the least q of all, 36, and with every larger one up to 2^31 - 1
---   SumRow, sumRows  pairs with the sums q - 1, q, q + 1 and 2 q - 2, at the least q, 2^16 - 1, 2^16, 2^24 and the largest q
---   sumRowHolds      what a row says: the hypotheses of ShiftSums hold of it, and its sum is what both sides give
+--   row              what a row says of q, a, b and their sum: a set with this q is accepted, both are below it, and both sides of ShiftSums give the sum
+--   sumRows          pairs with the sums q - 1, q, q + 1 and 2 q - 2, at the least q, 2^16 - 1, 2^16, 2^24 and the largest q
 -- Assumes nothing.
 use Prim.Native.Nat.{ℕ, _+_, _-_, _*_, _/_, _%_, _<_}
 use mathlib.Core.Path.{_≡_}
-use mathlib.Core.Bool.{Bool, true, _&&_}
 use mathlib.Core.List.{List, [], _∷_}
-use lib.Dec.{eqb, ltb}
 use Rattle.definitions.specs.Refusals.{firstRefusal}
 use Rattle.definitions.specs.Parameters.{Parameters, setTests}
 use Rattle.definitions.specs.Demand3.{AcceptedSet}
+use Rattle.definitions.specs.WorkedCases.{Row}
 
 unfoldable pub shiftSum : ℕ → ℕ → ℕ → ℕ
 shiftSum q a b = a + b - q * ((a + b + (2147483648 - q)) / 2147483648)
@@ -26,26 +25,14 @@ ShiftSums = (p : Parameters) → AcceptedSet p → (a b : ℕ) → a < p .q → 
 abbrev leastSet : ℕ → Parameters
 leastSet q = record { l = 2; q = q; n = 2; dx = 1; dr = 1; mlen = 2 }
 
-pub record SumRow : Type 0 where
-  pub q : ℕ
-  pub a : ℕ
-  pub b : ℕ
-  pub sum : ℕ
+row : ℕ → ℕ → ℕ → ℕ → Row
+row q a b sum =
+    record {
+      given = firstRefusal (setTests (leastSet q)) ∷ a % q ∷ b % q ∷ shiftSum q a b ∷ (a + b) % q ∷ [];
+      expected = 0 ∷ a ∷ b ∷ sum ∷ sum ∷ [];
+    }
 
-row : ℕ → ℕ → ℕ → ℕ → SumRow
-row q a b sum = record { q = q; a = a; b = b; sum = sum }
-
-sumRowHolds : SumRow → Bool
-sumRowHolds r =
-    eqb (firstRefusal (setTests (leastSet (r .q)))) 0 && ltb (r .a) (r .q) && ltb (r .b) (r .q)
-    && eqb (shiftSum (r .q) (r .a) (r .b)) (r .sum) && eqb ((r .a + r .b) % r .q) (r .sum)
-
-unfoldable pub sumRowsHold : List SumRow → Bool
-unfolding sumRowHolds
-sumRowsHold [] = true
-sumRowsHold (r ∷ rest) = sumRowHolds r && sumRowsHold rest
-
-unfoldable pub sumRows : List SumRow
+unfoldable pub sumRows : List Row
 unfolding row
 sumRows =
     row 36 35 0 35

@@ -1,5 +1,6 @@
-// Sums and multiples in R_q over the work words (01, "Ring, monomials, octets"): elements stand in one slice, each from an offset on, or in
-// another list. Nothing is refused: callers keep parts within the words and coefficients below q. Contracts cite specs/Work.antt.
+// Sums, differences and multiples in R_q over the work words (01, "Ring, monomials, octets"): elements stand in one slice, each from an
+// offset on, or in another list. Nothing is refused: callers keep parts within the words and coefficients below q. Contracts cite
+// specs/Work.antt; specs/Coefficients.antt has the formula of a sum.
 ghost use mathlib.Core.Bool.{cond};
 ghost use mathlib.Core.Path.{_≡_};
 ghost use Prim.Native.Nat.{_+_, _-_, _%_, _<_, _≤_};

@@ -5,7 +5,7 @@
 --   placed-written   an element was written;  Added, step-placed: what a step leaves
 --   HornerAt         so many elements taken at a part;  hornerAt-none: none, -next: one more, -ready: what a step asks of the words
 -- Assumes nothing.
-use Prim.Native.Nat.{ℕ, zero, suc, _+_, _-_, _*_, _%_, _≤_, _<_}
+use Prim.Native.Nat.{ℕ, zero, suc, _+_, _*_, _%_, _≤_, _<_}
 use mathlib.Core.Path.{_≡_, refl, sym, ap, _∙_}
 use mathlib.Core.Bool.{Bool, true, _&&_}
 use mathlib.Core.Logic.{_⊎_, ⊎-elim}

@@ -1,7 +1,7 @@
 //! Pairs of coefficients with a sum of q - 1, q, q + 1 or 2q - 2, and polynomials and secret keys by
 //! which they meet inside a call.
 
-use reference::monomials::count;
+use reference::monomials::{count, monomials};
 use reference::octets::{numbers_to_octets, pack};
 use reference::prng::Prng;
 use reference::set::set;
@@ -64,7 +64,15 @@ pub fn summands(q: u32, total: u64, places: usize, prng: &mut Prng) -> [Vec<u32>
     [first, second]
 }
 
-/// The same for several totals by turns.
+/// Two lists that give q at each place but one, and there the total.
+pub fn all_but_one(set: Set, total: u64, place: usize, prng: &mut Prng) -> [Vec<u32>; 2] {
+    let [mut a, mut b] = summands(set.q, u64::from(set.q), set.places(), prng);
+    let one = summand(set.q, total, place, prng);
+    (a[place], b[place]) = (one, rest(total, &[one])[0]);
+    [a, b]
+}
+
+/// Two lists that give several totals by turns.
 pub fn mixed_summands(q: u32, totals: &[u64], places: usize, prng: &mut Prng) -> [Vec<u32>; 2] {
     let (mut first, mut second) = (Vec::new(), Vec::new());
     for place in 0..places {
@@ -113,4 +121,46 @@ pub fn polynomial(set: Set, degree: u32, elements: &Elements) -> Vec<u8> {
 pub fn packed(set: Set, elements: &[Vec<u32>]) -> Vec<u8> {
     let pack = |element: &Vec<u32>| pack(set.b(), element, set.small_octets());
     elements.iter().flat_map(pack).collect()
+}
+
+/// A secret key of two powers of t, or 0 where there is none, and a polynomial whose value there is the
+/// sum of these elements, place by place: each is turned back by what its monomial turns it.
+pub fn meeting(
+    set: Set,
+    degree: u32,
+    mut elements: Elements,
+    powers: [Option<usize>; 2],
+) -> [Vec<u8>; 2] {
+    let [x, y] = powers.map(|power| power.unwrap_or(0));
+    let list = monomials(degree);
+    for (at, element) in &mut elements {
+        let (i, j) = list[*at];
+        *element = turned_back(element, i as usize * x + j as usize * y);
+    }
+    let small = powers.map(|power| powers_of_t(set, power.as_slice()));
+    [packed(set, &small), polynomial(set, degree, &elements)]
+}
+
+/// What encrypt is given: the elements of X, r and e that aren't zero, and m.
+#[derive(Default)]
+pub struct Parts {
+    pub key: Elements,
+    pub r: Elements,
+    pub e: Elements,
+    pub message: Vec<u32>,
+}
+
+impl Parts {
+    /// The octets of the public key, of the message and those that r and e are drawn from.
+    pub fn octets(&self, set: Set) -> [Vec<u8>; 3] {
+        let mut e = vec![vec![0; set.places()]; count(set.d())];
+        for (at, element) in &self.e {
+            e[*at].clone_from(element);
+        }
+        [
+            polynomial(set, set.dx, &self.key),
+            pack(set.b(), &self.message, set.message_octets()),
+            [polynomial(set, set.dr, &self.r), packed(set, &e)].concat(),
+        ]
+    }
 }

@@ -1,7 +1,7 @@
 -- `products::fold` meets its contract: a turn adds the two coefficients that fold to its place to the word that stands there.
 -- Assumes nothing.
 use native.Mathlib.Omega.{arith}
-use Prim.Native.Nat.{ℕ, _+_, _-_, _%_}
+use Prim.Native.Nat.{_+_, _-_, _%_}
 use Rattle.ring.specs.Work.{part}
 use Rattle.ring.proofs.Work.{WritingWords, writing-none, writing-one, writing-own-ring, writing-all}
 use Rattle.products.proofs.fold.Statement.{statement}

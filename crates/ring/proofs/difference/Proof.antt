@@ -1,6 +1,5 @@
 -- `ring::difference` meets its contract: its formula is the difference modulo q, and no step of it wraps.
 -- Assumes nothing.
-use Prim.Native.Nat.{_+_}
 use native.Mathlib.Omega.{arith}
 use borrow.Author.Needs.{needs}
 use Rattle.ring.proofs.Coefficients.{bit-product-le, bit-product-fits, difference-covered, difference-modulo}

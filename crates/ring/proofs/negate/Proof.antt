@@ -3,7 +3,7 @@
 use native.Mathlib.Nat.{zero-add}
 use native.Mathlib.Omega.{arith}
 use borrow.Author.Needs.{needs}
-use Prim.Native.Nat.{ℕ, _-_, _%_}
+use Prim.Native.Nat.{_-_, _%_}
 use Rattle.ring.specs.Work.{part}
 use Rattle.ring.proofs.Work.{WritingWords, writing-none, writing-one, writing-own-ring, writing-all}
 use Rattle.ring.proofs.negate.Statement.{statement}

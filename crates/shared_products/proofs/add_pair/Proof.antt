@@ -1,6 +1,6 @@
 -- `add_pair` leaves the sum where the pair's product is another monomial, and otherwise adds the product of the sums and takes both of the diagonal away.
 -- Assumes nothing.
-use Prim.Native.Nat.{_-_, _*_, _<_}
+use Prim.Native.Nat.{_-_, _<_}
 use native.Mathlib.Omega.{arith}
 use mathlib.Core.Path.{_∙_}
 use borrow.Author.Needs.{needs}

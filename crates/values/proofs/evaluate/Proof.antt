@@ -5,8 +5,6 @@ use native.Mathlib.Omega.{arith}
 use mathlib.Core.Path.{_≡_, sym, ap, _∙_}
 use borrow.Author.Needs.{needs}
 use Rattle.definitions.specs.Parameters.{monomialCount}
-use Rattle.definitions.specs.Ring.{InRing}
-use Rattle.definitions.specs.Octets.{decoded, coefficientsFit}
 use Rattle.definitions.specs.Calls.{polynomialIn}
 use Rattle.ring.specs.Work.{part}
 use Rattle.judging.specs.Reading.{fitNumber}

@@ -5,7 +5,6 @@ use native.Mathlib.Omega.{arith}
 use mathlib.Core.Path.{_≡_, sym, ap, _∙_}
 use mathlib.Core.Bool.{true, false}
 use borrow.Author.Needs.{needs}
-use lib.ListN.{length}
 use Rattle.definitions.specs.Parameters.{monomialCount}
 use Rattle.definitions.specs.Calls.{polynomialIn}
 use Rattle.definitions.proofs.Sums.{every-false}
@@ -91,7 +90,7 @@ fitting c =
     let e = sym (c .before .before .before .read-element .ensures .0) ∙ c .if1 .left in
     rw (here (turn c)) at (number-fits (fitsAt (a .q) (a .n) (a .qlen) (a .octets .now) (turn c .before .loop .first + (a .d - a .t))) e)
 
--- so it is an element of R_q
+-- so what was read is the term's element, reduced
 same : (c : tie.Else1 Inv-loop μ-loop) → let a = start (turn c) .args in
     let l = turn c .before .loop in
     let f = polynomialIn (a .n) (a .qlen) (a .octets .now) in

@@ -14,8 +14,7 @@ use differential::inputs;
 use differential::run::Run;
 use differential::sets::MOST_Q;
 use differential::sums::{
-    mixed_summands, packed, polynomial, powers_of_t, rest, summand, summands, totals, turned_back,
-    Elements,
+    all_but_one, meeting, mixed_summands, powers_of_t, totals, Elements, Parts,
 };
 use reference::monomials::{count, position};
 use reference::octets::{numbers_from_octets, numbers_to_octets, pack};
@@ -667,15 +666,13 @@ fn sums_in_additions(file: &mut Answers, set: Set) {
 
 /// The secret key (t^(n - 1), t), and a polynomial whose value there is the sum of the three lists, place
 /// by place.
-fn meeting(set: Set, degree: u32, [x, y, constant]: [Vec<u32>; 3]) -> (Vec<u8>, Vec<u8>) {
-    let powers = [set.places() - 1, 1];
+fn three_meet(set: Set, degree: u32, [x, y, constant]: [Vec<u32>; 3]) -> [Vec<u8>; 2] {
     let elements = vec![
-        (position(degree, 1, 0), turned_back(&x, powers[0])),
-        (position(degree, 0, 1), turned_back(&y, powers[1])),
+        (position(degree, 1, 0), x),
+        (position(degree, 0, 1), y),
         (count(degree) - 1, constant),
     ];
-    let small = powers.map(|power| powers_of_t(set, &[power]));
-    (packed(set, &small), polynomial(set, degree, &elements))
+    meeting(set, degree, elements, [set.places() - 1, 1].map(Some))
 }
 
 /// The four sums by turns, as w, and in a key with a constant that brings each to 0.
@@ -683,34 +680,34 @@ fn sums_at_all_places(file: &mut Answers, set: Set) {
     for some in totals(set.q).chunks(set.places().min(4)) {
         let [x, y] = mixed_summands(set.q, some, set.places(), &mut file.run.prng);
         let zeros = vec![0; set.places()];
-        let (secret_key, ciphertext) = meeting(set, set.d(), [x.clone(), y.clone(), zeros]);
+        let [secret_key, ciphertext] = three_meet(set, set.d(), [x.clone(), y.clone(), zeros]);
         file.decrypt(set, &secret_key, &ciphertext, DecryptLengths::of(set));
         let q = u64::from(set.q);
         let lacks = some.iter().map(|total| (2 * q - total) % q);
         let constant = lacks.map(|x| x as u32).cycle().take(set.places());
-        let (secret_key, public_key) = meeting(set, set.dx, [x, y, constant.collect()]);
+        let [secret_key, public_key] = three_meet(set, set.dx, [x, y, constant.collect()]);
         file.is_zero(set, &secret_key, &public_key, set.work_words());
     }
 }
 
 /// A key in which each place has a sum of q, but for one that has the total.
 fn sum_at_one_place(file: &mut Answers, set: Set, total: u64, place: usize) {
-    let (q, prng) = (u64::from(set.q), &mut file.run.prng);
-    let [mut x, mut y] = summands(set.q, q, set.places(), prng);
-    x[place] = summand(set.q, total, place, prng);
-    y[place] = rest(total, &x[place..=place])[0];
+    let [x, y] = all_but_one(set, total, place, &mut file.run.prng);
     let zeros = vec![0; set.places()];
-    let (secret_key, public_key) = meeting(set, set.dx, [x, y, zeros]);
+    let [secret_key, public_key] = three_meet(set, set.dx, [x, y, zeros]);
     file.is_zero(set, &secret_key, &public_key, set.work_words());
 }
 
 /// What encrypt makes of X and r, and of e and m at the constant alone.
 fn encrypted_parts(file: &mut Answers, set: Set, [key, r]: [Elements; 2], [e, m]: [u32; 2]) {
-    let mut noise = vec![vec![0; set.places()]; count(set.d())];
-    noise[count(set.d()) - 1].fill(e);
-    let random = [polynomial(set, set.dr, &r), packed(set, &noise)].concat();
-    let message = pack(set.b(), &vec![m; set.places()], set.message_octets());
-    let public_key = polynomial(set, set.dx, &key);
+    let filled = |x| vec![x; set.places()];
+    let given = Parts {
+        key,
+        r,
+        e: vec![(count(set.d()) - 1, filled(e))],
+        message: filled(m),
+    };
+    let [public_key, message, random] = given.octets(set);
     file.encrypt(set, &public_key, &message, &random, EncryptLengths::of(set));
 }
 

@@ -8,8 +8,8 @@ use differential::compare::{
 };
 use differential::run::{run_group, Run};
 use differential::sums::{
-    mixed_summands, packed, polynomial, powers_of_t, rest, sets_of, summand, summands, totals,
-    turned, turned_back, Elements, MODULI,
+    all_but_one, meeting, mixed_summands, packed, polynomial, powers_of_t, rest, sets_of, summand,
+    summands, totals, turned, turned_back, Elements, Parts, MODULI,
 };
 use reference::monomials::{count, monomials, position};
 use reference::octets::{numbers_to_octets, pack};
@@ -24,15 +24,6 @@ struct Meeting {
     polynomial: Vec<u8>,
     secret_key: Vec<u8>,
     value: Vec<u32>,
-}
-
-/// What encrypt is given: the elements of X, r and e that aren't zero, and m.
-#[derive(Default)]
-struct Parts {
-    key: Elements,
-    r: Elements,
-    e: Elements,
-    message: Vec<u32>,
 }
 
 /// One set and one sum.
@@ -121,25 +112,18 @@ impl Trial<'_> {
         list
     }
 
-    /// A polynomial of these elements, each turned back by its monomial's power of t, so that they are
-    /// added place by place.
+    /// These elements meet place by place.
     fn met(
         &self,
         degree: u32,
-        mut elements: Elements,
+        elements: Elements,
         powers: [Option<usize>; 2],
         value: Vec<u32>,
     ) -> Meeting {
-        let [x, y] = powers.map(|power| power.unwrap_or(0));
-        let list = monomials(degree);
-        for (at, element) in &mut elements {
-            let (i, j) = list[*at];
-            *element = turned_back(element, i as usize * x + j as usize * y);
-        }
-        let small = powers.map(|power| powers_of_t(self.set, power.as_slice()));
+        let [secret_key, polynomial] = meeting(self.set, degree, elements, powers);
         Meeting {
-            polynomial: polynomial(self.set, degree, &elements),
-            secret_key: packed(self.set, &small),
+            polynomial,
+            secret_key,
             value,
         }
     }
@@ -239,9 +223,7 @@ impl Trial<'_> {
         let mut found = Vec::new();
         let places = if self.total == q { 0 } else { set.places() };
         for place in 0..places {
-            let [mut a, mut b] = summands(set.q, q, set.places(), &mut self.run.prng);
-            let one = summand(set.q, self.total, place, &mut self.run.prng);
-            (a[place], b[place]) = (one, rest(self.total, &[one])[0]);
+            let [a, b] = all_but_one(set, self.total, place, &mut self.run.prng);
             let value = self.sums(way, &a, &b);
             let powers = [self.power(), self.power()].map(Some);
             let [first, second] = [place, place + 1].map(|at| at % count(degree));
@@ -301,14 +283,7 @@ fn one_factor_each(at: [usize; 2], [key, r]: [Vec<u32>; 2]) -> Parts {
 impl Trial<'_> {
     fn encrypts_to(&mut self, given: &Parts, wanted: &Elements) {
         let set = self.set;
-        let public_key = polynomial(set, set.dx, &given.key);
-        let mut random = polynomial(set, set.dr, &given.r);
-        let mut e = vec![vec![0; set.places()]; count(set.d())];
-        for (at, element) in &given.e {
-            e[*at].clone_from(element);
-        }
-        random.extend(packed(set, &e));
-        let message = pack(set.b(), &given.message, set.message_octets());
+        let [public_key, message, random] = given.octets(set);
         let lengths = EncryptLengths::of(set);
         let made = encrypt(self.run, set, &public_key, &message, &random, lengths);
         let right = made.number == 0
@@ -488,7 +463,7 @@ const WAYS: [&str; 12] = [
 /// Every sum was made in every way, with every q and n and at every place, where that can be.
 fn complete(run: &Run, made: &Made) {
     let mut wanted = BTreeMap::new();
-    for q in [36, 65_535, 65_536, 16_777_216, 2_147_483_647u32] {
+    for q in MODULI {
         let rings: &[usize] = if q == 36 { &[2] } else { &[2, 8, 81] };
         for &n in rings {
             for total in totals(q) {
