@@ -463,7 +463,8 @@ const WAYS: [&str; 12] = [
 /// Every sum was made in every way, with every q and n and at every place, where that can be.
 fn complete(run: &Run, made: &Made) {
     let mut wanted = BTreeMap::new();
-    for q in MODULI {
+    // Not by MODULI, so that a q that is left out there is missed here.
+    for q in [36, 65_535, 65_536, 16_777_216, 2_147_483_647u32] {
         let rings: &[usize] = if q == 36 { &[2] } else { &[2, 8, 81] };
         for &n in rings {
             for total in totals(q) {
