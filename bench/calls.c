@@ -1,6 +1,7 @@
 /* The library's calls beside the same calls in C over several rings.  Results are compared before
    anything is timed; entries take turns; each time is the minimum of all rounds.
-   With -DLIBRARY_ONLY the library has no peers, and addition, whose peers are in copies.c, is among the calls.
+   With -DLIBRARY_ONLY the library has no peers, addition, whose peers are in copies.c, is among the calls, and
+   multiply_add, which earlier libraries lack, is not.
    Usage: calls [TIMES.csv] */
 
 #include <stdio.h>
@@ -39,8 +40,10 @@ static const struct set sets[] = {SETS_BY_N, {2, 169894159, 64, 2, 2, 64}};
 static const struct set *set;
 static uint8_t random_octets[4 * MAX_OCTETS];
 static uint8_t secret_key[MAX_N], public_key[MAX_OCTETS], message[MAX_N / 2], ciphertext[MAX_OCTETS];
+static uint32_t words[MAX_ELEMENTS * MAX_N]; /* the ciphertext's */
 static struct outputs {
     uint8_t secret_key[MAX_N], public_key[MAX_OCTETS], message[MAX_N / 2], ciphertext[MAX_OCTETS];
+    uint32_t element[MAX_N];
     uint64_t used;
 } out;
 static uint32_t work[8 * MAX_N];
@@ -91,6 +94,18 @@ static void run_add(size_t i)
     must(set, giophantus_add(SET, ciphertext, ciphertext_length, ciphertext, ciphertext_length, out.ciphertext,
                              ciphertext_length));
 }
+#else
+/* a * b + c of the ciphertext's first three elements; the third is copied first, since the result takes its place. */
+static void run_multiply_add(size_t i)
+{
+    const uint32_t *a = words, *b = words + set->n, *c = words + 2 * set->n;
+
+    memcpy(out.element, c, set->n * sizeof *c);
+    if (entries[i].ring == NULL)
+        must(set, giophantus_multiply_add(SET, a, set->n, b, set->n, out.element, set->n));
+    else
+        peer_multiply_add(entries[i].ring, set, a, b, out.element);
+}
 #endif
 
 static const struct call {
@@ -106,6 +121,9 @@ static const struct call {
     {"add", run_add, 0},
 #endif
     {"decrypt", run_decrypt, 0},
+#ifndef LIBRARY_ONLY
+    {"multiply_add", run_multiply_add, 0},
+#endif
 };
 #define ROWS (sizeof calls / sizeof calls[0] * SETS)
 
@@ -157,7 +175,7 @@ static void check_equal(int times)
     }
 }
 
-/* Keys, a message and its ciphertext, made by the library. */
+/* Keys, a message and its ciphertext, made by the library, and the ciphertext's words. */
 static void prepare(void)
 {
     size_t i;
@@ -178,6 +196,7 @@ static void prepare(void)
         message[message_length - 1] &= (uint8_t)(0xFF >> unused);
     run_encrypt(0);
     memcpy(ciphertext, out.ciphertext, ciphertext_length);
+    peer_decode(set, ciphertext, words);
 }
 
 /* Starts the ring of each entry, once where entries share it; or ends them. */

@@ -326,6 +326,12 @@ void peer_decrypt(const struct ring *r, const struct set *s, const uint8_t *secr
     pack(s, w, s->mlen / small_bits(s), message);
 }
 
+void peer_multiply_add(const struct ring *r, const struct set *s, const uint32_t *a, const uint32_t *b, uint32_t *c)
+{
+    product(r, a, b, one);
+    add_element(s, c, one);
+}
+
 void peer_add(const struct set *s, const uint8_t *a, const uint8_t *b, uint8_t *sum)
 {
     size_t k, at;

@@ -42,6 +42,9 @@ uint64_t peer_encrypt(const struct ring *r, int shared, const struct set *s, con
 void peer_decrypt(const struct ring *r, const struct set *s, const uint8_t *secret_key, const uint8_t *ciphertext,
                   uint8_t *message);
 
+/* c becomes a * b + c, as words. */
+void peer_multiply_add(const struct ring *r, const struct set *s, const uint32_t *a, const uint32_t *b, uint32_t *c);
+
 /* Ciphertexts, and small elements of n coefficients. */
 void peer_add(const struct set *s, const uint8_t *a, const uint8_t *b, uint8_t *sum);
 void peer_decode(const struct set *s, const uint8_t *octets, uint32_t *words);

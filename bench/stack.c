@@ -129,6 +129,12 @@ static uint32_t ciphertext_to_octets(void)
     return giophantus_ciphertext_to_octets(SET, words, elements(set->dx + set->dr) * set->n, sum, ciphertext_length);
 }
 
+/* Of the ciphertext's first three elements. */
+static uint32_t multiply_add(void)
+{
+    return giophantus_multiply_add(SET, words, set->n, words + set->n, set->n, words + 2 * set->n, set->n);
+}
+
 static const struct call {
     const char *name;
     uint32_t (*run)(void);
@@ -151,6 +157,7 @@ static const struct call {
     {"public_key_to_octets", public_key_to_octets},
     {"ciphertext_from_octets", ciphertext_from_octets},
     {"ciphertext_to_octets", ciphertext_to_octets},
+    {"multiply_add", multiply_add},
 };
 #define CALLS (sizeof calls / sizeof calls[0])
 

@@ -84,7 +84,7 @@ static void print_head(size_t count, const struct turn *turns)
     size_t i;
 
     printf("microseconds, the least of %d runs of %d rounds, or of as many as are said behind a row; in brackets the %s's\n"
-           "time as a multiple of that entry's\n\n%-30s %11s",
+           "time as a multiple of that entry's\n\n%-35s %11s",
            RUNS, ROUNDS, turns[0].name, "call, n, l, octets of q", turns[0].name);
     for (i = 1; i < count; i++)
         printf(" %20s", turns[i].name);
@@ -97,7 +97,7 @@ static void print_row(const struct row *row, size_t count)
     const struct set *s = row->set;
     size_t i;
 
-    printf("%-7s %4u, %2u, %u%-11s %11.3f", row->call, s->n, s->l, qlen(s), s->dx == 2 ? ", degrees 2" : "",
+    printf("%-12s %4u, %2u, %u%-11s %11.3f", row->call, s->n, s->l, qlen(s), s->dx == 2 ? ", degrees 2" : "",
            1e6 * turns[0].best);
     for (i = 1; i < count; i++)
         if (turns[i].left_out)

@@ -1,5 +1,5 @@
 /*
- * calls.c: the eighteen calls of the C interface on arguments that libFuzzer chooses. By hand: see docs/FUZZING.md.
+ * calls.c: the nineteen calls of the C interface on arguments that libFuzzer chooses. By hand: see docs/FUZZING.md.
  *
  * The octets of an input choose the call, the six numbers, the length and the contents of each buffer; where the input
  * ends, a sequence that it determines goes on. After the call the rules of giophantus.h are held to, and abort() ends the
@@ -11,6 +11,7 @@
  *     no octet outside a buffer is read or written
  *     what an accepted encryption under made keys gives decrypts to the message, and a sum to the total modulo l
  *     each coefficient of a sum is the sum modulo q of those added
+ *     each coefficient of a * b + c is the one worked out here a second time; where n is large, one of them
  *
  * The archive is linked as it is, without a sanitizer's checks in it, so AddressSanitizer alone would not see it touch
  * an octet outside. Hence each buffer lies right before or right after a page that cannot be touched, with canaries on
@@ -28,7 +29,7 @@
 #include "giophantus.h"
 
 #define LARGEST_N 4096u
-#define PRODUCT_N 128u /* sets of larger n are left out of the calls with products, which would take long */
+#define PRODUCT_N 128u /* sets of larger n are left out of the calls with many products, which would take long */
 #define ARENA (512u * 1024u)
 #define PAGE 4096u
 #define CANARIES 64u
@@ -77,7 +78,8 @@ struct set {
 
 #define SET(s) (s)->l, (s)->q, (s)->n, (s)->dx, (s)->dr, (s)->mlen
 
-/* Accepted sets: each l, degree and length of q, q next to its bound, next to or at a power of two and at its largest. */
+/* Accepted sets: each l, degree and length of q, q next to its bound, next to or at a power of two, at its largest and on
+   both sides of where the library sums 80 products otherwise. */
 static const struct set table[] = {
     {2, 37, 2, 1, 1, 2},          {2, 251, 2, 1, 1, 1},           {2, 257, 3, 1, 1, 3},
     {4, 1459, 2, 1, 1, 4},        {4, 65521, 2, 1, 1, 4},         {4, 65537, 2, 1, 1, 2},
@@ -89,7 +91,8 @@ static const struct set table[] = {
     {8, 2147483647, 64, 1, 1, 192}, {16, 2147483647, 115, 1, 1, 460}, {2, 2147483647, 120, 2, 2, 120},
     {4, 2147483647, 118, 1, 2, 236}, {8, 2147483647, 30, 2, 1, 0}, {4, 467424413, 1201, 1, 1, 2402},
     {2, 2147483647, 4096, 1, 1, 4096}, {2, 36, 2, 1, 1, 2},       {2, 65535, 8, 1, 1, 8},
-    {2, 65536, 81, 1, 1, 81},     {2, 16777216, 81, 1, 1, 81},
+    {2, 65536, 81, 1, 1, 81},     {2, 16777216, 81, 1, 1, 81},    {2, 480191941, 80, 1, 1, 80},
+    {2, 480191942, 80, 1, 1, 80},
 };
 #define TABLE (sizeof table / sizeof *table)
 
@@ -374,14 +377,15 @@ static uint32_t fit_both(struct buffer *packed, size_t used_bits, struct buffer 
 /* ---- the calls ---- */
 
 enum call {
-    CHECK, LIMITS, LENGTHS, KEYGEN, IS_ZERO, ENCRYPT, ADD, DECRYPT, ELEMENT_FROM, ELEMENT_TO, SMALL_FROM, SMALL_TO,
-    SECRET_FROM, SECRET_TO, PUBLIC_FROM, PUBLIC_TO, CIPHER_FROM, CIPHER_TO, ROUND, CALLS
+    CHECK, LIMITS, LENGTHS, KEYGEN, IS_ZERO, ENCRYPT, ADD, DECRYPT, MULTIPLY_ADD, ELEMENT_FROM, ELEMENT_TO, SMALL_FROM,
+    SMALL_TO, SECRET_FROM, SECRET_TO, PUBLIC_FROM, PUBLIC_TO, CIPHER_FROM, CIPHER_TO, ROUND, CALLS
 };
 
 static const char *const names[] = {
-    "check", "limits", "lengths", "keygen", "is_zero", "encrypt", "add", "decrypt", "element_from_octets",
-    "element_to_octets", "small_from_octets", "small_to_octets", "secret_key_from_octets", "secret_key_to_octets",
-    "public_key_from_octets", "public_key_to_octets", "ciphertext_from_octets", "ciphertext_to_octets", "round trip"
+    "check", "limits", "lengths", "keygen", "is_zero", "encrypt", "add", "decrypt", "multiply_add",
+    "element_from_octets", "element_to_octets", "small_from_octets", "small_to_octets", "secret_key_from_octets",
+    "secret_key_to_octets", "public_key_from_octets", "public_key_to_octets", "ciphertext_from_octets",
+    "ciphertext_to_octets", "round trip"
 };
 
 /* What libFuzzer is told of the archive, which has no counters: each answer of each call, by set and by kind of set. */
@@ -398,6 +402,43 @@ static void tell(enum call call, uint32_t number, const struct set *s) {
     by_set[call][number][chosen_from] = 1;
     if (refusal_of(s) == 0)
         by_kind[call][number][bits(s->l) - 1][bytes_of(s->q) - 1][s->dx - 1][s->dr - 1] = 1;
+}
+
+/* The coefficient of t^k in a * b modulo q. */
+static uint32_t product_at(const struct buffer *a, const struct buffer *b, uint32_t n, uint32_t q, uint32_t k) {
+    uint64_t sum = 0;
+    for (uint32_t i = 0; i < n; i++)
+        sum = (sum + (uint64_t)coefficient(a, i, 4) * coefficient(b, (n + k - i) % n, 4)) % q;
+    return (uint32_t)sum;
+}
+
+/* c becomes a * b + c, of n words each. The product is worked out at every place, or at one where n is large. Gives the
+   number, and in *low the refusal of a coefficient. */
+static uint32_t multiply_add(const struct set *s, int accepted, uint32_t n, uint32_t *low) {
+    struct buffer *a = sized(INPUT, n, 4), *b = octet() & 1 ? a : sized(INPUT, n, 4), *c = sized(OUTPUT, n, 4);
+    struct buffer *product = buffer(INPUT, 4 * n); /* it isn't passed */
+    uint32_t where = n > PRODUCT_N ? octet() % 3 : 0, step = n > PRODUCT_N ? n : 1;
+    uint32_t first = where == 0 ? 0 : where == 1 ? n - 1 : word() % n;
+    int fit = accepted && !wrong_length;
+    memset(product->at, 0, product->octets);
+    if (fit) {
+        *low = fit_coefficients(a, 4, s->q);
+        if (b != a && fit_coefficients(b, 4, s->q) != 0)
+            *low = GIOPHANTUS_COEFFICIENT;
+        for (uint32_t k = first; k < n; k += step)
+            set_coefficient(product, k, 4, product_at(a, b, n, s->q, k));
+        if (fit_summand(c, product, 4, s->q) != 0)
+            *low = GIOPHANTUS_COEFFICIENT;
+    }
+    keep();
+    uint32_t number = giophantus_multiply_add(SET(s), WORDS(a), WORDS(b), WORDS(c));
+    for (uint32_t k = first; fit && number == 0 && k < n; k += step) {
+        uint32_t old;
+        memcpy(&old, c->old + 4 * k, 4);
+        rule(coefficient(c, k, 4) == ((uint64_t)coefficient(product, k, 4) + old) % s->q,
+             "a coefficient isn't that of a * b + c");
+    }
+    return number;
 }
 
 /* Random octets: enough of them mostly, with room for groups that are dropped. */
@@ -575,6 +616,9 @@ static void one_call(void) {
             low = fit_both(x, n * b, y, qlen, s.q);
         keep();
         number = giophantus_decrypt(SET(&s), OCTETS(x), OCTETS(y), OCTETS(z), WORDS(w));
+        break;
+    case MULTIPLY_ADD:
+        number = multiply_add(&s, refused == 0, n, &low);
         break;
     default: { /* the conversions */
         static from_octets *const from[] = {giophantus_element_from_octets, giophantus_small_from_octets,

@@ -169,6 +169,18 @@ uint32_t giophantus_decrypt(uint32_t l, uint32_t q, uint32_t n, uint32_t dx, uin
                             size_t work_len);
 
 /*
+ * giophantus_multiply_add: c becomes a * b + c in R_q, three ring elements as words, n each: the product with
+ * t^n = 1 is added to what c holds, coefficient by coefficient modulo q, in c's own words. a and b stay as they were
+ * and may be one buffer; c is a buffer of its own. A small element is a ring element too: its words may be given as
+ * they are. Encryption, key generation, decryption and the zero test multiply two elements by the same operation.
+ * Refusals, in order: 1 to 5; 6 where a, b or c isn't of its exact length; 8 where a word of a, b or c is q or more.
+ * No work words.
+ */
+uint32_t giophantus_multiply_add(uint32_t l, uint32_t q, uint32_t n, uint32_t dx, uint32_t dr, uint32_t mlen,
+                                 const uint32_t *a, size_t a_len, const uint32_t *b, size_t b_len, uint32_t *c,
+                                 size_t c_len);
+
+/*
  * giophantus_element_from_octets: the n coefficients of a ring element as words, from its n * qlen octets. A
  * coefficient is all of its qlen octets. Refusals, in order: 1 to 5; 6 where octets or words isn't of its exact
  * length; 8 where a coefficient is q or more. No work words.

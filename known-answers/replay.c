@@ -14,9 +14,10 @@
 #define MAX_FIELDS 32
 #define MAX_ARGUMENTS 6
 
-enum kind { INPUT, OUTPUT, WORK, NUMBER };
+enum kind { INPUT, OUTPUT, IN_PLACE, WORK, NUMBER };
 
-/* An argument: its field in the file, what it is, and the octets of one of its cells. */
+/* An argument: its field in the file, what it is, and the octets of one of its cells.  One that is in place is an input
+   and an output at once: what it holds after the call is a field with "_after" behind the name. */
 struct argument {
     const char *name;
     enum kind kind;
@@ -180,7 +181,7 @@ static void prepare(const struct argument *a, struct buffer *b)
 {
     char name[64];
 
-    if (a->kind == INPUT) {
+    if (a->kind == INPUT || a->kind == IN_PLACE) {
         size_t length;
         void *cells = from_hex(a->name, a->size, &length);
 
@@ -215,6 +216,21 @@ static void same(const struct argument *a, const struct buffer *b, const void *w
     }
 }
 
+/* An output must hold what the file says. */
+static void check_output(const struct argument *a, const struct buffer *b)
+{
+    char name[64];
+    size_t length;
+    void *wanted;
+
+    snprintf(name, sizeof name, "%s%s", a->name, a->kind == IN_PLACE ? "_after" : "");
+    wanted = from_hex(name, a->size, &length);
+    if (length != b->length)
+        stop("%s isn't of the buffer's length", name);
+    same(a, b, wanted, "the file");
+    free(wanted);
+}
+
 static void check_buffer(const struct argument *a, const struct buffer *b, uint32_t answer)
 {
     size_t octets = b->length * a->size;
@@ -244,13 +260,7 @@ static void check_buffer(const struct argument *a, const struct buffer *b, uint3
         same(a, b, wanted, "the file");
         free(wanted);
     } else {
-        size_t length;
-        void *wanted = from_hex(a->name, a->size, &length);
-
-        if (length != b->length)
-            stop("%s and %s_len disagree", a->name, a->name);
-        same(a, b, wanted, "the file");
-        free(wanted);
+        check_output(a, b);
     }
 }
 
@@ -273,6 +283,7 @@ CALL(is_zero, (SET, BUFFER(0), BUFFER(1), BUFFER(2), CELLS(3)))
 CALL(encrypt, (SET, BUFFER(0), BUFFER(1), BUFFER(2), BUFFER(3), BUFFER(4), CELLS(5)))
 CALL(add, (SET, BUFFER(0), BUFFER(1), BUFFER(2)))
 CALL(decrypt, (SET, BUFFER(0), BUFFER(1), BUFFER(2), BUFFER(3)))
+CALL(multiply_add, (SET, BUFFER(0), BUFFER(1), BUFFER(2)))
 CALL(element_from_octets, (SET, BUFFER(0), BUFFER(1)))
 CALL(element_to_octets, (SET, BUFFER(0), BUFFER(1)))
 CALL(small_from_octets, (SET, BUFFER(0), BUFFER(1)))
@@ -323,6 +334,7 @@ static const struct call {
     {"decrypt",
      call_decrypt,
      {{"secret_key", INPUT, 1}, {"ciphertext", INPUT, 1}, {"message", OUTPUT, 1}, {"work", WORK, 4}}},
+    {"multiply_add", call_multiply_add, {{"a", INPUT, 4}, {"b", INPUT, 4}, {"c", IN_PLACE, 4}}},
     {"element_from_octets", call_element_from_octets, FROM_OCTETS},
     {"element_to_octets", call_element_to_octets, TO_OCTETS},
     {"small_from_octets", call_small_from_octets, FROM_OCTETS},
@@ -358,7 +370,7 @@ static void replay_record(void)
     size_t i;
 
     for (i = 0; i < MAX_ARGUMENTS && a[i].name != NULL; i++) {
-        /* "b = same": both summands are one buffer. */
+        /* "b = same": both summands, or both factors, are one buffer. */
         one_buffer[i] = i > 0 && a[i].kind == INPUT && strcmp(field(a[i].name), "same") == 0;
         if (one_buffer[i])
             b[i] = b[i - 1];

@@ -12,6 +12,7 @@
 #include <stdio.h>
 #include <stdlib.h>
 
+#include "example.h"
 #include "giophantus.h"
 
 /* The set: l, q, n, dx, dr, mlen. Four counts of 0 to 15 in a message, and room for 819 summands. */
@@ -26,14 +27,6 @@
 
 /* More than each step here uses: 36 for keys and 60 for a ciphertext, and 4 more for each group that is dropped. */
 #define RANDOM_OCTETS 128u
-
-/* Ends the program on a refusal; a real program would act on the number (see giophantus.h). */
-static void accepted(const char *step, uint32_t number) {
-    if (number != GIOPHANTUS_OK) {
-        fprintf(stderr, "%s: refusal %" PRIu32 "\n", step, number);
-        exit((int)number);
-    }
-}
 
 static void *buffer(uint64_t count, size_t size) {
     /* One element at least, since a buffer of length 0 needs a pointer that is not null. */

@@ -1,5 +1,6 @@
-//! A second implementation of document 01 ("01" below), plain on purpose: simple loops, wide
-//! integers, memory allocated freely. Tests compare the library with it.
+//! A second implementation of document 01 ("01" below) and of Q-8's operation in document 02
+//! ("02"), plain on purpose: simple loops, wide integers, memory allocated freely. Tests compare
+//! the library with it.
 //!
 //! Every call takes the parameter set first and its other arguments in the order of the C
 //! interface, and answers the refusal number (0 at success). On a refusal every output holds its
@@ -24,5 +25,5 @@ pub use convert::{
     public_key_from_octets, public_key_to_octets, secret_key_from_octets, secret_key_to_octets,
     small_from_octets, small_to_octets,
 };
-pub use scheme::{add, decrypt, encrypt, is_zero, keygen};
+pub use scheme::{add, decrypt, encrypt, is_zero, keygen, multiply_add};
 pub use set::{check, lengths, limits, Set};

@@ -65,6 +65,25 @@ pub fn product(q: u32, a: &[u32], b: &[u32]) -> Element {
     sums.iter().map(|s| (s % u128::from(q)) as u32).collect()
 }
 
+/// a * b + c in R_q, by the matrix A of the submission's section 3.2: the result is b A + c.
+///
+/// Row i of A is t^i * a, which is a turned i places upwards since t^n = 1. (From n = 4 on the
+/// matrix as printed has a_(n - 1) for a_2 in its last row.) The sums start with c; with n terms
+/// below 2^64 each u128 cannot wrap, and they are reduced once, at the end.
+pub fn multiply_add(q: u32, a: &[u32], b: &[u32], c: &[u32]) -> Element {
+    assert_eq!(a.len(), b.len());
+    assert_eq!(a.len(), c.len());
+    let mut row = a.to_vec();
+    let mut sums: Vec<u128> = c.iter().map(|&z| u128::from(z)).collect();
+    for &y in b {
+        for (sum, &x) in sums.iter_mut().zip(&row) {
+            *sum += u128::from(x) * u128::from(y);
+        }
+        row.rotate_right(1);
+    }
+    sums.iter().map(|s| (s % u128::from(q)) as u32).collect()
+}
+
 /// The product of two polynomials in x and y.
 pub fn polynomial_product(q: u32, n: usize, a: &Polynomial, b: &Polynomial) -> Polynomial {
     let degree = a.degree + b.degree;

@@ -1,4 +1,4 @@
-//! keygen, the zero test, encrypt, add and decrypt.
+//! keygen, the zero test, encrypt, add, decrypt and multiply_add.
 
 use crate::draw::Draws;
 use crate::monomials;
@@ -222,6 +222,27 @@ pub fn decrypt(
         return refusal::TAIL;
     }
     message.copy_from_slice(&octets::pack(set.b(), kept, set.message_octets()));
+    refusal::NONE
+}
+
+/// 02, Q-8: c becomes a * b + c in R_q, n words each. Refusals 1 to 5, 6, 8.
+pub fn multiply_add(set: Set, a: &[u32], b: &[u32], c: &mut [u32]) -> u32 {
+    let number = check_lengths(
+        set,
+        [
+            (a.len(), Set::places),
+            (b.len(), Set::places),
+            (c.len(), Set::places),
+        ],
+    );
+    if number != refusal::NONE {
+        return number;
+    }
+    if [a, b, c].concat().iter().any(|&x| x >= set.q) {
+        return refusal::COEFFICIENT;
+    }
+    let result = ring::multiply_add(set.q, a, b, c);
+    c.copy_from_slice(&result);
     refusal::NONE
 }
 

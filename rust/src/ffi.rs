@@ -60,6 +60,10 @@ extern "C" {
         secret_key: *const u8, secret_key_len: usize, ciphertext: *const u8, ciphertext_len: usize,
         message: *mut u8, message_len: usize, work: *mut u32, work_len: usize,
     ) -> u32;
+    fn giophantus_multiply_add(
+        l: u32, q: u32, n: u32, dx: u32, dr: u32, mlen: u32,
+        a: *const u32, a_len: usize, b: *const u32, b_len: usize, c: *mut u32, c_len: usize,
+    ) -> u32;
 }
 
 /// Success or the refusal with this number.
@@ -236,6 +240,27 @@ pub(crate) fn decrypt(
     })
 }
 
+/// a × b + c into c; a and b may be one.
+pub(crate) fn multiply_add([l, q, n, dx, dr, mlen]: Numbers, a: &[u32], b: &[u32], c: &mut [u32]) -> Result<(), Error> {
+    // SAFETY: POINTERS; NO OVERLAP: c is `&mut`, and a and b, which are only read, may be one; NOTHING KEPT.
+    accepted(unsafe {
+        giophantus_multiply_add(
+            l,
+            q,
+            n,
+            dx,
+            dr,
+            mlen,
+            a.as_ptr(),
+            a.len(),
+            b.as_ptr(),
+            b.len(),
+            c.as_mut_ptr(),
+            c.len(),
+        )
+    })
+}
+
 /// A conversion from octets to words and the one back: the C functions and a safe function over each.
 macro_rules! conversions {
     ($($c_from:ident $c_to:ident, $from:ident $to:ident: $what:literal;)*) => {
@@ -291,4 +316,33 @@ conversions! {
         public_key_from_octets public_key_to_octets: "a public key";
     giophantus_ciphertext_from_octets giophantus_ciphertext_to_octets,
         ciphertext_from_octets ciphertext_to_octets: "a ciphertext";
+}
+
+#[cfg(test)]
+mod tests {
+    use super::*;
+
+    /// The types never give multiply_add what it refuses.
+    #[test]
+    fn multiply_add_refuses_and_leaves_c() {
+        const SET: Numbers = [4, 1459, 2, 1, 1, 4];
+        let refused = |set: Numbers, a: &[u32], b: &[u32], c: &[u32]| {
+            let mut after = c.to_vec();
+            let answer = multiply_add(set, a, b, &mut after);
+            assert_eq!(after, c);
+            answer.err()
+        };
+        assert_eq!(refused([4, 1455, 2, 1, 1, 4], &[1459], &[0, 0], &[3, 4]), Some(Error::Modulus));
+        for (a, b, c) in [
+            (&[1][..], &[1459, 0][..], &[3, 4][..]),
+            (&[1459, 0], &[1, 2, 3], &[3, 4]),
+            (&[1459, 0], &[5, 7], &[3]),
+            (&[1459, 0], &[5, 7], &[3, 4, 5]),
+        ] {
+            assert_eq!(refused(SET, a, b, c), Some(Error::Length));
+        }
+        for (a, b, c) in [([1, 1459], [5, 7], [3, 4]), ([1, 2], [5, 1459], [3, 4]), ([1, 2], [5, 7], [3, 1459])] {
+            assert_eq!(refused(SET, &a, &b, &c), Some(Error::Coefficient));
+        }
+    }
 }

@@ -48,6 +48,9 @@
 //! program is compiled, a [`FixedSet`] of your own tags the types and octets alone suffice,
 //! `PublicKey::<MySet>::try_from(octets)`. `AsRef<[u8]>` gives the octets back.
 //!
+//! [`Element`], a ring element, is made in the same ways and holds words: [`Element::multiply_add`] makes a × b + c in
+//! place, for those who follow the ring's arithmetic step by step.
+//!
 //! Every refusal of the library is a variant of [`Error`] with its number, a sentence and what to do. The work words
 //! that the library needs are kept for each thread and used again.
 //!
@@ -61,6 +64,7 @@
 #![deny(rustdoc::broken_intra_doc_links)]
 
 mod ciphertext;
+mod element;
 mod error;
 #[allow(unsafe_code)]
 mod ffi;
@@ -72,6 +76,7 @@ mod random;
 mod workspace;
 
 pub use ciphertext::{Ciphertext, Encrypted};
+pub use element::Element;
 pub use error::Error;
 pub use keys::{Keys, PublicKey, SecretKey};
 pub use message::Message;

@@ -21,7 +21,7 @@ pub enum AnySet {}
 /// The tag of a set that is known when the program is compiled: a type of your own.
 ///
 /// Values of different tags have different types, so a program that mixes them does not compile; and octets alone tell
-/// what they are, so that keys, messages and ciphertexts have `TryFrom<&[u8]>`.
+/// what they are, so that keys, messages, ciphertexts and ring elements have `TryFrom<&[u8]>`.
 ///
 /// ```
 /// use giophantus::{Ciphertext, FixedSet, Parameters};

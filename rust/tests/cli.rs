@@ -75,6 +75,15 @@ impl Place {
         place.write("sent", &SENT);
         place
     }
+
+    /// Worked case 1's two elements, 1 + 2t and 5 + 7t, and 3 + 1458t to add.
+    fn elements() -> Self {
+        let place = Place::new();
+        place.write("a", &[1, 0, 2, 0]);
+        place.write("b", &[5, 0, 7, 0]);
+        place.write("c", &[3, 0, 0xB2, 5]);
+        place
+    }
 }
 
 impl Drop for Place {
@@ -156,19 +165,22 @@ fn a_blank_goes_out_under_mlen_0() {
     assert!(!place.has("wrong"));
 }
 
+/// Sets that are refused, each with its number.
+const REFUSED_SETS: [(&str, i32); 8] = [
+    ("3 1459 2 1 1 4", 1),
+    ("4 1459 1 1 1 4", 2),
+    ("4 1459 2 3 1 4", 3),
+    ("4 1455 2 1 1 4", 4),
+    ("4 1459 2 1 1 3", 5),
+    ("4 1459 2 1 1", 11),
+    ("4 1459 2 1 1 04", 11),
+    ("", 11),
+];
+
 #[test]
 fn the_exit_status_is_the_refusal() {
     let place = Place::worked();
-    for (set, number) in [
-        ("3 1459 2 1 1 4", 1),
-        ("4 1459 1 1 1 4", 2),
-        ("4 1459 2 3 1 4", 3),
-        ("4 1455 2 1 1 4", 4),
-        ("4 1459 2 1 1 3", 5),
-        ("4 1459 2 1 1", 11),
-        ("4 1459 2 1 1 04", 11),
-        ("", 11),
-    ] {
+    for (set, number) in REFUSED_SETS {
         place.bad(&["limits", "--set", set], number, &format!("refusal {number}: "));
     }
     place.write("short", &SENT[1..]);
@@ -266,6 +278,80 @@ fn conversions_go_both_ways() {
     place.bad(&["convert", "--set", SET_A, "--kind", "small", "--to", "text"], 64, "--to is");
 }
 
+/// As docs/GUIDE.md shows it.
+#[test]
+fn a_product_by_hand() {
+    let place = Place::new();
+    for (file, words) in [("a", "1 2\n"), ("b", "5 7\n"), ("c", "0 0\n")] {
+        let convert = ["convert", "--set", SET_A, "--kind", "element", "--to", "octets", "--out", file];
+        assert_eq!(status(&place.run_with(&convert, words.as_bytes())), 0);
+    }
+    assert_eq!(place.good(&["multiply-add", "--set", SET_A, "a", "b", "c", "--out", "c"]), "");
+    assert_eq!(place.good(&["convert", "--set", SET_A, "--kind", "element", "--to", "words", "c"]), "19 17\n");
+}
+
+#[test]
+fn a_product_is_added() {
+    let place = Place::elements();
+    let multiply_add = ["multiply-add", "--set", SET_A];
+    // 19 + 17t + 3 + 1458t
+    let sum = [22, 0, 16, 0];
+    for files in [["a", "b", "-"], ["b", "a", "-"]] {
+        assert_eq!(place.run_with(&[&multiply_add[..], &files].concat(), &place.read("c")).stdout, sum);
+    }
+    assert_eq!(place.run_with(&[&multiply_add[..], &["-", "b", "c"]].concat(), &place.read("a")).stdout, sum);
+    assert_eq!(place.run_with(&[&multiply_add[..], &["a", "-", "c"]].concat(), &place.read("b")).stdout, sum);
+    // Into the file of C, and with one file as A and B: (1 + 2t)² = 5 + 4t.
+    place.good(&[&multiply_add[..], &["a", "b", "c", "--out", "c"]].concat());
+    assert_eq!(place.read("c"), sum);
+    place.good(&[&multiply_add[..], &["--out=c", "a", "a", "c"]].concat());
+    assert_eq!(place.read("c"), [27, 0, 20, 0]);
+    assert_eq!((place.read("a"), place.read("b")), (vec![1, 0, 2, 0], vec![5, 0, 7, 0]));
+}
+
+#[test]
+fn a_product_is_refused() {
+    let place = Place::elements();
+    place.write("out", b"old");
+    place.write("short", &[1, 0, 2]);
+    place.write("large", &[0xB3, 5, 0, 0]);
+    for (set, number) in REFUSED_SETS {
+        let what = format!("--set \"{set}\": refusal {number}: ");
+        place.bad(&["multiply-add", "--set", set, "--out", "out", "a", "large", "short"], number, &what);
+    }
+    for (files, number, what) in [
+        (["short", "b", "c"], 6, "short (4 octets expected, 3 found): refusal 6"),
+        (["a", "short", "c"], 6, "short (4 octets expected, 3 found): refusal 6"),
+        (["a", "b", "short"], 6, "short (4 octets expected, 3 found): refusal 6"),
+        (["a", "b", "/dev/zero"], 6, "/dev/zero (4 octets expected, more found): refusal 6"),
+        (["large", "b", "c"], 8, "large: refusal 8"),
+        (["a", "large", "c"], 8, "large: refusal 8"),
+        (["a", "b", "large"], 8, "large: refusal 8"),
+        // The lowest, and of equal ones the first.
+        (["large", "large", "short"], 6, "short (4"),
+        (["large", "short", "large"], 6, "short (4"),
+        (["a", "short", "/dev/zero"], 6, "short (4"),
+    ] {
+        place.bad(&[&["multiply-add", "--set", SET_A, "--out", "out"], &files[..]].concat(), number, what);
+    }
+    assert_eq!(place.read("out"), b"old");
+}
+
+#[test]
+fn a_product_takes_three_files_that_can_be_read() {
+    let place = Place::elements();
+    let multiply_add = ["multiply-add", "--set", SET_A];
+    for files in [&[][..], &["a"], &["a", "b"]] {
+        place.bad(&[&multiply_add[..], files].concat(), 64, "name three ring elements");
+    }
+    place.bad(&[&multiply_add[..], &["a", "b", "c", "d"]].concat(), 64, "d is one argument too many");
+    place.bad(&[&multiply_add[..], &["-", "-", "c"]].concat(), 64, "standard input (-) is given twice");
+    place.bad(&["multiply-add", "a", "b", "c"], 64, "--set is missing");
+    place.bad(&[&multiply_add[..], &["a", "b", "missing"]].concat(), 74, "missing: No such file");
+    place.bad(&[&multiply_add[..], &["a", ".", "c"]].concat(), 74, ".: ");
+    place.bad(&[&multiply_add[..], &["a", "b", "c", "--out", "no/where"]].concat(), 74, "no/where: ");
+}
+
 #[test]
 fn limits_are_printed() {
     let place = Place::new();
@@ -280,8 +366,8 @@ fn limits_are_printed() {
 fn help_for_each_command() {
     let place = Place::new();
     let program = place.good(&["--help"]);
-    for command in ["keygen", "encrypt", "add", "decrypt", "is-zero", "limits", "convert"] {
-        assert!(program.contains(&format!("\n  {command}")));
+    for command in ["keygen", "encrypt", "add", "decrypt", "is-zero", "limits", "multiply-add", "convert"] {
+        assert!(program.contains(&format!("\n  {command} ")));
         let help = place.good(&[command, "--help"]);
         assert!(help.starts_with(&format!("giophantus {command}: ")) && help.contains("usage: "), "{help}");
         assert_eq!(help, place.good(&[command, "-h"]));
@@ -346,10 +432,12 @@ fn arguments_that_are_no_text() {
 #[test]
 fn a_broken_pipe_ends_it_quietly() {
     let place = Place::worked();
+    place.write("element", &[1, 0, 2, 0]);
     for arguments in [
         vec!["--help"],
         vec!["limits", "--set", SET],
         vec!["add", "--set", SET_A, "sent", "sent"],
+        vec!["multiply-add", "--set", SET_A, "element", "element", "element"],
         vec!["decrypt", "--set", SET_A, "--secret-key", "secret", "--counts", "sent"],
     ] {
         let (reader, writer) = std::io::pipe().unwrap();

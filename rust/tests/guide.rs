@@ -1,6 +1,6 @@
 //! The numbers printed in docs/GUIDE.md are those of the library.
 
-use giophantus::{Ciphertext, Error, Message, Parameters};
+use giophantus::{Ciphertext, Element, Error, Message, Parameters};
 
 fn guide() -> String {
     let path = concat!(env!("CARGO_MANIFEST_DIR"), "/../docs/GUIDE.md");
@@ -79,6 +79,18 @@ fn every_refusal_is_explained() {
     let numbers: Vec<u32> = rows(&guide, "| number | given when").iter().map(|row| number(&row[0])).collect();
     let refusals: Vec<u32> = Error::REFUSALS.iter().filter_map(|refusal| refusal.number()).collect();
     assert_eq!(numbers, refusals);
+}
+
+#[test]
+fn a_product_in_the_ring() {
+    let guide = guide();
+    let set: Parameters = "4 1459 2 1 1 4".parse().unwrap();
+    let [a, b] = [[1, 2], [5, 7]].map(|words| Element::from_words(&set, &words).unwrap());
+    let mut c = Element::zero(&set);
+    c.multiply_add(&a, &b).unwrap();
+    let [first, second] = c.as_ref() else { panic!("n is 2") };
+    assert!(guide.contains(&format!("(1 + 2t) × (5 + 7t) = {first} + {second}t")));
+    assert!(guide.contains(&format!(" # prints {first} {second}\n")));
 }
 
 /// Larger counts over several places: five laboratories, base 4, four digits each.

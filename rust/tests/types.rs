@@ -2,7 +2,7 @@
 
 use std::io::Read;
 
-use giophantus::{Ciphertext, Error, FixedSet, Keys, Message, Parameters, PublicKey, SecretKey};
+use giophantus::{Ciphertext, Element, Error, FixedSet, Keys, Message, Parameters, PublicKey, SecretKey};
 
 /// Octets that are the same on every run (splitmix64). Not for keys.
 struct Octets(u64);
@@ -240,6 +240,118 @@ fn words_that_are_too_large_or_too_many_are_refused() {
     }
 }
 
+fn drawn_element(set: &Parameters, octets: &mut Octets) -> Element {
+    let words: Vec<u32> = (0..set.n()).map(|_| octets.below(set.q())).collect();
+    Element::from_words(set, &words).unwrap()
+}
+
+/// An element whose coefficients are all the same.
+fn filled_element(set: &Parameters, word: u32) -> Element {
+    Element::from_words(set, &vec![word; set.n() as usize]).unwrap()
+}
+
+/// The words of a × b + c by the definition: t^n = 1, modulo q.
+fn product_added(a: &Element, b: &Element, c: &Element) -> Vec<u32> {
+    let (n, q) = (a.as_ref().len(), u128::from(a.parameters().q()));
+    let [a, b, c] = [a, b, c].map(|one| one.as_ref().iter().map(|&word| u128::from(word)).collect::<Vec<_>>());
+    let coefficient = |k: usize| c[k] + (0..n).map(|i| a[i] * b[(n + k - i) % n]).sum::<u128>();
+    (0..n).map(|k| (coefficient(k) % q) as u32).collect()
+}
+
+#[test]
+fn products_are_added_by_the_definition() {
+    let mut octets = Octets(9);
+    for set in sets() {
+        let [a, b, mut c] = [0; 3].map(|_| drawn_element(&set, &mut octets));
+        let (old_a, old_b) = (a.clone(), b.clone());
+        for (a, b) in [(&a, &b), (&b, &a), (&a, &a)] {
+            let expected = product_added(a, b, &c);
+            c.multiply_add(a, b).unwrap();
+            assert_eq!(c.to_words(), expected, "{set}");
+        }
+        assert_eq!((a, b), (old_a, old_b));
+    }
+}
+
+#[test]
+fn products_of_the_largest_coefficients_are_added() {
+    for set in sets() {
+        let (n, last) = (set.n() as usize, set.q() - 1);
+        let mut one = vec![0; n];
+        one[0] = 1;
+        let one = Element::from_words(&set, &one).unwrap();
+        let mut c = filled_element(&set, last);
+        c.multiply_add(&filled_element(&set, 1), &one).unwrap();
+        assert_eq!(c, Element::zero(&set), "{set}");
+
+        // Each coefficient is n × (q - 1)² + q - 1, which is n - 1 modulo q.
+        let mut c = filled_element(&set, last);
+        c.multiply_add(&filled_element(&set, last), &filled_element(&set, last)).unwrap();
+        assert_eq!(c.to_words(), vec![set.n() - 1; n], "{set}");
+    }
+}
+
+#[test]
+fn a_secret_key_is_a_zero_by_hand() {
+    let mut octets = Octets(10);
+    for set in sets().filter(|set| set.dx() == 1) {
+        let keys = set.keygen_from(&mut octets).unwrap();
+        let elements = |words: Vec<u32>| -> Vec<Element> {
+            words.chunks(set.n() as usize).map(|words| Element::from_words(&set, words).unwrap()).collect()
+        };
+        let (public_key, secret_key) = (elements(keys.public_key.to_words()), elements(keys.secret_key.to_words()));
+        let mut value = public_key[2].clone();
+        value.multiply_add(&public_key[0], &secret_key[0]).unwrap();
+        value.multiply_add(&public_key[1], &secret_key[1]).unwrap();
+        assert_eq!(value, Element::zero(&set), "{set}");
+    }
+}
+
+#[test]
+fn elements_of_another_set_leave_the_sum_as_it_was() {
+    let set = Parameters::new(4, 1459, 2, 1, 1, 4).unwrap();
+    let a = Element::from_words(&set, &[1, 2]).unwrap();
+    let old = Element::from_words(&set, &[5, 7]).unwrap();
+    for other in ["4 1459 2 1 1 0", "4 1471 2 1 1 4", "2 1459 3 1 1 3"] {
+        let other = filled_element(&other.parse().unwrap(), 1);
+        let mut c = old.clone();
+        for (a, b) in [(&a, &other), (&other, &a), (&other, &other)] {
+            assert_eq!(c.multiply_add(a, b), Err(Error::DifferentSets));
+            assert_eq!(c, old);
+        }
+        assert_ne!(filled_element(&set, 1), other);
+    }
+}
+
+#[test]
+fn elements_are_judged() {
+    for set in sets() {
+        let n = set.n() as usize;
+        for (len, place) in [n - 1, n, n + 1].into_iter().flat_map(|len| (0..len).map(move |place| (len, place))) {
+            let mut words = vec![0; len];
+            words[place] = set.q() - 1;
+            let judged = Element::from_words(&set, &words);
+            assert_eq!(judged.as_ref().err(), (len != n).then_some(&Error::Length), "{set}");
+            if let Ok(element) = judged {
+                assert_eq!((element.as_ref(), element.to_words()), (&words[..], words.clone()));
+                let octets = element.to_octets();
+                assert_eq!(octets, set.element_to_octets(&words).unwrap());
+                assert_eq!(Element::try_from((&set, &octets[..])), Ok(element));
+            }
+            // A word of q: 8, and 6 before it.
+            words[place] = set.q();
+            let expected = if len == n { Error::Coefficient } else { Error::Length };
+            assert_eq!(Element::from_words(&set, &words), Err(expected), "{set}");
+        }
+        let mut octets = vec![0; set.element_len()];
+        octets[..set.coefficient_len()].copy_from_slice(&set.q().to_le_bytes()[..set.coefficient_len()]);
+        assert_eq!(Element::try_from((&set, &octets[..])), Err(Error::Coefficient));
+        octets.push(0);
+        assert_eq!(Element::try_from((&set, &octets[..])), Err(Error::Length));
+        assert_eq!(Element::try_from((&set, &octets[2..])), Err(Error::Length));
+    }
+}
+
 #[test]
 fn values_of_two_sets_never_meet() {
     let mut octets = Octets(4);
@@ -295,6 +407,31 @@ fn with_a_tag_octets_alone_suffice() {
 
     assert_eq!(Ciphertext::<Trial>::try_from(&[0; 3][..]), Err(Error::Length));
     assert_eq!(Ciphertext::<Unfit>::try_from(&[0; 192][..]).unwrap_err(), Error::Modulus);
+}
+
+#[test]
+fn with_a_tag_octets_alone_are_a_ring_element() {
+    let octets = [[2, 0, 0, 0], [3, 0, 0, 0]].concat().repeat(4);
+    let a = Element::<Trial>::try_from(&octets[..]).unwrap();
+    assert_eq!(a.to_words(), [2, 3, 2, 3, 2, 3, 2, 3]);
+    let mut c = Element::from_words(&Parameters::<Trial>::fixed().unwrap(), &[1; 8]).unwrap();
+    c.multiply_add(&a, &a).unwrap();
+    // Four times 2 × 2 + 3 × 3 and four times 2 × 3 + 3 × 2, and 1.
+    assert_eq!(c.to_words(), [53, 49, 53, 49, 53, 49, 53, 49]);
+
+    assert_eq!(Element::<Trial>::try_from(&octets[1..]), Err(Error::Length));
+    assert_eq!(Element::<Trial>::try_from(&[0xFF; 32][..]), Err(Error::Coefficient));
+    assert_eq!(Element::<Unfit>::try_from(&octets[..]), Err(Error::Modulus));
+}
+
+#[test]
+fn debug_shows_some_words_of_an_element() {
+    let set = Parameters::new(16, 52129279, 8, 1, 1, 16).unwrap();
+    let shown = format!("{:?}", filled_element(&set, 7));
+    assert_eq!(shown, "Element { set: 16 52129279 8 1 1 16, words: [7, 7, 7, 7, 7, 7, 7, 7] }");
+    let set = Parameters::new(2, 2147483647, 30, 2, 1, 0).unwrap();
+    let shown = format!("{:?}", filled_element(&set, 7));
+    assert_eq!(shown, "Element { set: 2 2147483647 30 2 1 0, words: [7, 7, 7, 7, 7, 7, 7, 7].. (30 words) }");
 }
 
 #[test]

@@ -1,7 +1,6 @@
-//! The worked list, as far as this interface reaches it: cases 2 to 11, and roomsheet's four lines. (Case 1, a product in
-//! the ring, is inside the library.)
+//! The worked list, as far as this interface reaches it: cases 1 to 11, and roomsheet's four lines.
 
-use giophantus::{Ciphertext, Error, Message, Parameters, PublicKey, SecretKey};
+use giophantus::{Ciphertext, Element, Error, Message, Parameters, PublicKey, SecretKey};
 
 const KEY_RANDOM: [u8; 10] = [0x09, 0x04, 0x05, 0x00, 0x07, 0x00, 0x64, 0x00, 0x01, 0x00];
 const SECRET_KEY: [u8; 2] = [0x09, 0x04];
@@ -28,6 +27,19 @@ fn public_key() -> PublicKey {
 
 fn message() -> Message {
     Message::try_from((&set(), &[0x0E][..])).unwrap()
+}
+
+/// (1 + 2t) × (5 + 7t) = 19 + 17t, by words and by octets.
+#[test]
+fn case_1_product() {
+    let set = set();
+    let a = Element::from_words(&set, &[1, 2]).unwrap();
+    let b = Element::try_from((&set, &[5, 0, 7, 0][..])).unwrap();
+    let mut c = Element::zero(&set);
+    c.multiply_add(&a, &b).unwrap();
+    assert_eq!(c.to_words(), [19, 17]);
+    assert_eq!(c.to_octets(), [19, 0, 17, 0]);
+    assert_eq!((a.to_words(), b.to_words()), (vec![1, 2], vec![5, 7]));
 }
 
 #[test]

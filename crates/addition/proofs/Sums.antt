@@ -7,15 +7,14 @@
 --   coefficientSums-octetsFrom   the sums' octets are those of the sum of the two polynomials
 -- Assumes nothing.
 use Prim.Native.Nat.{ℕ, _+_, _*_, _/_, _%_, _≤_, _<_, zero-le}
-use mathlib.Core.Path.{_≡_, refl, sym, ap, ap₂, _∙_}
-use mathlib.Core.Bool.{Bool, true, false, not}
-use mathlib.Core.List.{List, [], _∷_}
+use mathlib.Core.Path.{_≡_, sym, ap, ap₂, _∙_}
+use mathlib.Core.Bool.{true}
+use mathlib.Core.List.{List}
 use native.Mathlib.Nat.{le-refl, zero-mul}
 use native.Mathlib.Omega.{arith}
 use lib.Dec.{eqb}
 use lib.ListN.{length, getD}
 use Rattle.definitions.specs.Sequences.{joined}
-use Rattle.definitions.specs.Refusals.{refuse, firstRefusal}
 use Rattle.definitions.specs.Parameters.{Parameters, degree, qlen, monomialCount, elementsLength, ciphertextLength}
 use Rattle.definitions.specs.Ring.{modulo, add}
 use Rattle.definitions.specs.Monomials.{sumOf, coefficientsOf}
@@ -29,7 +28,7 @@ use Rattle.definitions.proofs.Octets.{coefficientsFit-at, place-end, wide-room}
 use Rattle.definitions.proofs.Elements.{polynomialIn-at}
 use Rattle.encoding.proofs.Laws.{stored, encode-wide, encode-end}
 use Rattle.judging.specs.Reading.{fitNumber}
-use Rattle.judging.proofs.Judged.{judged}
+use Rattle.judging.proofs.Judged.{judged, fitNumber-test}
 use Rattle.addition.specs.Sums.{bothFit, Summands, AddedTo, coefficientSums}
 
 -- ---- a turn of a loop
@@ -92,13 +91,8 @@ module _ {q len count : ℕ} {a b : List ℕ} where
 
 pub judged-test : (p : Parameters) → AcceptedSet p → (octets : List ℕ) → length octets ≡ ciphertextLength p → {len r : ℕ} → len ≡ qlen (p .q)
     → r ≡ fitNumber (p .q) (decoded len (length octets / len) octets) → eqb r 0 ≡ elementsFit p (monomialCount (degree p)) octets
-unfolding ciphertextLength fitNumber elementsFit firstRefusal
-judged-test p set octets exact e number =
-    ap (λ (r : ℕ). eqb r 0) (judged p (accepted-set p set) _ octets exact e number) ∙ told _
-  where
-    told : (t : Bool) → eqb (firstRefusal (refuse 8 (not t) ∷ [])) 0 ≡ t
-    told true = refl
-    told false = refl
+unfolding ciphertextLength elementsFit
+judged-test p set octets exact e number = fitNumber-test (p .q) _ (judged p (accepted-set p set) _ octets exact e number)
 
 module _ (p : Parameters) (set : AcceptedSet p) where
   pub ciphertext-count : ciphertextLength p / qlen (p .q) ≡ monomialCount (degree p) * p .n

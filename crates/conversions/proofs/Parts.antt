@@ -19,14 +19,14 @@ use lib.Seq.{take-all, take-at, length-take-le}
 use borrow.Author.Tests.{eqb-true}
 use borrow.Rule.Slice.PartMut.{putMid}
 use Rattle.definitions.specs.Sequences.{every, tabulate, joined}
-use Rattle.definitions.specs.Refusals.{refuse, firstRefusal, refused, accepted, answer}
+use Rattle.definitions.specs.Refusals.{refuse, refused, accepted, answer}
 use Rattle.definitions.specs.Parameters.{Parameters, smallBits, qlen, smallLength}
 use Rattle.definitions.specs.Octets.{coefficientsFit, paddingClear}
 use Rattle.definitions.specs.Calls.{lengthTests}
 use Rattle.definitions.specs.Conversions.{ConversionExit, conversionLeaves, chunk}
 use Rattle.definitions.specs.Demand3.{AcceptedSet}
 use Rattle.definitions.proofs.Tests.{both-true}
-use Rattle.definitions.proofs.Refusals.{firstRefusal-applies, firstRefusal-last}
+use Rattle.definitions.proofs.Refusals.{firstRefusal-applies, firstRefusal-last, firstRefusal-zero}
 use Rattle.definitions.proofs.Exits.{exit-refused, exit-accepted}
 use Rattle.definitions.proofs.Filling.{length-borrowed}
 use Rattle.definitions.proofs.Octets.{below-take, below-drop, coefficientsFit-below, coefficientsFit-true, place-end}
@@ -92,12 +92,8 @@ part-fits q i n words e = coefficientsFit-true q _ (below-take q (i * n + n - i 
 -- ---- unused bits
 
 pub padding-test : (used : ℕ) (octets : List ℕ) → eqb (paddingNumber used octets) 0 ≡ paddingClear used octets
-unfolding paddingNumber firstRefusal
-padding-test used octets = told (paddingClear used octets)
-  where
-    told : (t : Bool) → eqb (firstRefusal (refuse 7 (not t) ∷ [])) 0 ≡ t
-    told true = refl
-    told false = refl
+unfolding paddingNumber
+padding-test used octets = firstRefusal-zero 6 (paddingClear used octets)
 
 pub every-more : (i : ℕ) (f : ℕ → Bool) → every (i + 1) f ≡ (every i f && f i)
 unfolding every

@@ -21,6 +21,7 @@ pub mod Small
 pub mod Calls
 pub mod Exits
 pub mod RoundTrips
+pub mod MultiplyAdd
 pub mod Represents
 pub mod Decryption
 pub mod Zeros

@@ -6,6 +6,7 @@ use mathlib.Core.List.{List, map}
 use Rattle.definitions.specs.Refusals.{Test, answer}
 use Rattle.definitions.specs.Parameters.{setTests, limitsAnswer, lengthsAnswer}
 use Rattle.definitions.specs.Calls.{lengthTests, keygenAnswer, isZeroAnswer, encryptAnswer, addAnswer, decryptAnswer}
+use Rattle.definitions.specs.MultiplyAdd.{multiplyAddAnswer}
 use Rattle.definitions.specs.Conversions.{fromOctetsAnswer, toOctetsAnswer, packedFromAnswer, packedToAnswer}
 use Rattle.definitions.specs.Roomsheet.{lineLimits}
 use Rattle.definitions.specs.Order.{upToLength, afterLength, standsIn, numberOfTest, InOrder, RefusalOrder}
@@ -16,8 +17,8 @@ by first later value e f = record { value = value; is = refl; first-ordered = e;
 
 pub refusal-order : RefusalOrder
 unfolding
-    setTests lengthTests limitsAnswer lengthsAnswer keygenAnswer isZeroAnswer encryptAnswer addAnswer decryptAnswer fromOctetsAnswer toOctetsAnswer
-    packedFromAnswer packedToAnswer lineLimits
+    setTests lengthTests limitsAnswer lengthsAnswer keygenAnswer isZeroAnswer encryptAnswer addAnswer decryptAnswer multiplyAddAnswer fromOctetsAnswer
+    toOctetsAnswer packedFromAnswer packedToAnswer lineLimits
 refusal-order =
     record {
       limits = λ p. by _ _ _ refl refl;
@@ -27,6 +28,7 @@ refusal-order =
       encrypt = λ p q m r c w. by _ _ _ refl refl;
       add = λ p a b s. by _ _ _ refl refl;
       decrypt = λ p s c m w. by _ _ _ refl refl;
+      multiply-add = λ p a b c. by _ _ _ refl refl;
       from-octets = λ p e o w. by _ _ _ refl refl;
       to-octets = λ p e w o. by _ _ _ refl refl;
       packed-from = λ p e o w. by _ _ _ refl refl;

@@ -6,9 +6,10 @@
 -- Assumes nothing.
 use Prim.Native.Nat.{ℕ, zero, suc, _<_}
 use mathlib.Core.Path.{_≡_, refl, sym, _∙_}
-use mathlib.Core.Bool.{Bool, true, false}
+use mathlib.Core.Bool.{Bool, true, false, not}
 use mathlib.Core.List.{List, [], _∷_, _++_}
 use native.Mathlib.Omega.{arith}
+use lib.Dec.{eqb, eqb·suc-zero}
 use Rattle.definitions.specs.Refusals.{Test, refuse, firstRefusal, untouched, refused, accepted, answerOf, answer, number}
 
 abbrev pub Numbered : List Test → Type 0
@@ -26,6 +27,12 @@ firstRefusal-passes k t later e = rw e
 pub firstRefusal-last : (k : ℕ) (t : Bool) → t ≡ false → firstRefusal (refuse k t ∷ []) ≡ 0
 unfolding firstRefusal
 firstRefusal-last k t e = rw e
+
+-- the number of one test, compared with 0, is whether the test does not apply
+pub firstRefusal-zero : (k : ℕ) (t : Bool) → eqb (firstRefusal (refuse (suc k) (not t) ∷ [])) 0 ≡ t
+unfolding firstRefusal
+firstRefusal-zero k true = refl
+firstRefusal-zero k false = eqb·suc-zero k
 
 -- a list that gives 0 has passed its first test
 pub firstRefusal-passed : (k : ℕ) (t : Bool) (later : List Test) → 0 < k → firstRefusal (refuse k t ∷ later) ≡ 0

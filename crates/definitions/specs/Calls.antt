@@ -1,4 +1,4 @@
--- 01, "Draws from lent random octets" (keys, sealing, opening, adding, zero test) with "Refusal table": the answer of every call.
+-- 01, "Draws from lent random octets" (keys, sealing, opening, adding, zero test) with "Refusal table": the answer of every call of 01.
 --
 --   01's form is a ciphertext; its r is the mask here and its e the noise.
 --

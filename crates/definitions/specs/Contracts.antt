@@ -1,11 +1,12 @@
--- What each call promises, as one equation over its arguments as a contract sees them: what the caller has at exit, the number and every output
--- and the work words, is what 01 defines from what was lent at entry.
+-- What each call promises, as one equation over its arguments as a contract sees them: what the caller has at exit, the number, every output,
+-- the work words and, where a request asks for it, what stays, is what 01 and 02 define from what was lent at entry.
 --
 --   Borrowed         what is lent, at entry and at exit;  Buffer: octets or words;  Cell: a number behind a pointer
 --   before, after    what a buffer or a cell holds at entry, and at exit
 --   Bounds, Measures the set's bound and headroom; its lengths
 --   Makes            key generation (01: key making);  TellsZero: the zero test;  Encrypts: encryption (sealing);  Adds: addition;
 --                    Decrypts: decryption (opening)
+--   MultipliesAndAdds a × b + c over words (02, Q-8)
 --   Decodes, Encodes so many ring elements from octets, and to octets;  Unpacks, Packs: so many packed small elements
 -- The number that the call answers comes last.
 -- Assumes nothing.
@@ -16,6 +17,7 @@ use denote.Ref.{RefT, now}
 use denote.Triple.Both.{Both}
 use Rattle.definitions.specs.Parameters.{Parameters, LimitsExit, limitsExit, LengthsExit, lengthsExit}
 use Rattle.definitions.specs.Calls.{KeygenExit, keygenExit, IsZeroExit, isZeroExit, EncryptExit, encryptExit, AddExit, addExit, DecryptExit, decryptExit}
+use Rattle.definitions.specs.MultiplyAdd.{MultiplyAddExit, multiplyAddExit}
 use Rattle.definitions.specs.Conversions.{ConversionExit, fromOctetsExit, toOctetsExit, packedFromExit, packedToExit}
 
 abbrev pub Borrowed : Type 0 → Type 0
@@ -75,6 +77,12 @@ Decrypts p secret ciphertext message work r =
     _≡_ {A = DecryptExit}
     (record { refusal = r; message = after message; work = after work })
     (decryptExit p (before secret) (before ciphertext) (before message) (before work))
+
+abbrev pub MultipliesAndAdds : Parameters → Buffer → Buffer → Buffer → ℕ → Type 0
+MultipliesAndAdds p a b c r =
+    _≡_ {A = MultiplyAddExit}
+    (record { refusal = r; a = after a; b = after b; c = after c })
+    (multiplyAddExit p (before a) (before b) (before c))
 
 -- a conversion by what it leaves: from the buffer given to the one lent for its output
 abbrev pub Converts : (Parameters → ℕ → List ℕ → List ℕ → ConversionExit) → Parameters → ℕ → Buffer → Buffer → ℕ → Type 0

@@ -22,7 +22,7 @@ use lib.Dec.{eqb}
 use lib.ListN.{length, getD}
 use Rattle.definitions.specs.Refusals.{firstRefusal, Answer, untouched, accepted}
 use Rattle.definitions.specs.Parameters.{Parameters, degree, smallBits, bound, setTests, monomialCount, smallLength, publicLength, ciphertextLength, messageLength, workLength}
-use Rattle.definitions.specs.Ring.{Element, elementOf, modulo, InRing}
+use Rattle.definitions.specs.Ring.{Element, elementOf, modulo, ListInRing}
 use Rattle.definitions.specs.Monomials.{Polynomial, productOf, value}
 use Rattle.definitions.specs.Octets.{packed}
 use Rattle.definitions.specs.Calls.{KeyPair, secretX, secretY, polynomialFrom, elementsFit, keygenAnswer, isZeroAnswer, messageOf, decryptAnswer}
@@ -35,9 +35,8 @@ abbrev pub ZeroOf : Parameters → List ℕ → List ℕ → Type 0
 ZeroOf p public secret = isZeroAnswer p secret public (workLength p) ≡ accepted true
 
 -- coefficients of an element of R_ℓ, as a list (01: small)
-pub record InSmallRing (p : Parameters) (coefficients : List ℕ) : Type 0 where
-  pub sized : length coefficients ≡ p .n
-  pub below : InRing (p .l) (p .n) (elementOf coefficients)
+abbrev pub InSmallRing : Parameters → List ℕ → Type 0
+InSmallRing p = ListInRing (p .l) (p .n)
 
 -- the octets of the secret u_x, u_y
 abbrev pub secretOf : Parameters → List ℕ → List ℕ → List ℕ

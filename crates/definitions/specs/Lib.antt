@@ -1,4 +1,4 @@
--- Document 01 as definitions. Each file opens with its dictionary and names the section of 01 that it renders.
+-- Document 01, and what change requests of 02 add to its calls, as definitions. Each file opens with its dictionary and names what it renders.
 pub mod Sequences
 pub mod Refusals
 pub mod Parameters
@@ -8,6 +8,7 @@ pub mod Octets
 pub mod Draws
 pub mod Calls
 pub mod Conversions
+pub mod MultiplyAdd
 pub mod Contracts
 pub mod Ledger
 pub mod Roomsheet
@@ -15,4 +16,5 @@ pub mod Order
 pub mod Demand3
 pub mod Corollaries
 pub mod WorkedCases
+pub mod MultiplyAddHolds
 pub mod Witness

@@ -18,6 +18,7 @@ use lib.ListN.{length}
 use Rattle.definitions.specs.Refusals.{Test, refuse, Answer, answer}
 use Rattle.definitions.specs.Parameters.{Parameters, setTests, smallLength, elementsLength, limitsAnswer, lengthsAnswer}
 use Rattle.definitions.specs.Calls.{lengthTests, keysExact, encryptExact, addExact, decryptExact, keygenTests, keygenAnswer, isZeroTests, isZeroAnswer, encryptTests, encryptAnswer, addTests, addAnswer, decryptTests, decryptAnswer}
+use Rattle.definitions.specs.MultiplyAdd.{multiplyAddExact, multiplyAddTests, multiplyAddAnswer}
 use Rattle.definitions.specs.Conversions.{fromOctetsTests, fromOctetsAnswer, toOctetsTests, toOctetsAnswer, packedFromTests, packedFromAnswer, packedToTests, packedToAnswer}
 use Rattle.definitions.specs.Roomsheet.{Text, lineTests, lineLimits}
 
@@ -62,6 +63,9 @@ pub record RefusalOrder : Type 0 where
       (p : Parameters) (secret ciphertext : List ℕ) (messageLen workLen : ℕ) →
       InOrder (decryptAnswer p secret ciphertext messageLen workLen)
       (lengthTests p (decryptExact p (length secret) (length ciphertext) messageLen workLen)) (decryptTests p secret ciphertext)
+  pub multiply-add :
+      (p : Parameters) (a b c : List ℕ) →
+      InOrder (multiplyAddAnswer p a b c) (lengthTests p (multiplyAddExact p (length a) (length b) (length c))) (multiplyAddTests p a b c)
   pub from-octets :
       (p : Parameters) (elements : ℕ) (octets : List ℕ) (wordsLen : ℕ) →
       InOrder (fromOctetsAnswer p elements octets wordsLen)

@@ -5,14 +5,16 @@
 --   modulo           each coefficient modulo q: an element of R_q is one that this leaves as it is
 --   add, scale       the sum of two elements; an element times a number
 --   conv             the product with t^n = 1: a_i × b_j goes to the place (i + j) modulo n (the cyclic convolution)
+--   multiplyAdd      a × b + c in R_q (000, section 3.2; 02, Q-8)
 --   one, power       1, and the powers of an element
---   InRing           every coefficient below q: R_q, and R_ℓ where ℓ stands for q
+--   InRing           every coefficient below q: R_q, and R_ℓ where ℓ stands for q;  ListInRing: a list of its n coefficients
 --
--- Sum and product are taken over the whole numbers; R_q's are these modulo q.
+-- Sum and product are taken over the whole numbers; those of R_q are these modulo q, as multiplyAdd is taken.
 -- Assumes nothing.
 use Prim.Native.Nat.{ℕ, zero, suc, _+_, _*_, _%_, _<_}
+use mathlib.Core.Path.{_≡_}
 use mathlib.Core.List.{List}
-use lib.ListN.{getD}
+use lib.ListN.{length, getD}
 use Rattle.definitions.specs.Sequences.{sum, sameNumber}
 
 abbrev pub Element : Type 0
@@ -33,6 +35,9 @@ scale c a k = c * a k
 unfoldable pub conv : ℕ → Element → Element → Element
 conv n a b k = sum n (λ i. a i * sum n (λ j. b j * sameNumber ((i + j) % n) k))
 
+unfoldable pub multiplyAdd : ℕ → ℕ → Element → Element → Element → Element
+multiplyAdd q n a b c k = (conv n a b k + c k) % q
+
 unfoldable pub one : Element
 one k = sameNumber 0 k
 
@@ -42,3 +47,7 @@ power n a (suc i) = conv n a (power n a i)
 
 abbrev pub InRing : ℕ → ℕ → Element → Type 0
 InRing q n a = (k : ℕ) → k < n → a k < q
+
+pub record ListInRing (q n : ℕ) (coefficients : List ℕ) : Type 0 where
+  pub sized : length coefficients ≡ n
+  pub below : InRing q n (elementOf coefficients)

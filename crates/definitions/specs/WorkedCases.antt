@@ -1,7 +1,9 @@
 -- 01, "Worked list": the cases marked P, as one table of rows. proofs/Computed.antt shows that they follow from the definitions.
 --
 --   setA             ℓ 4, q 1459, n 2, dX 1, dr 1, mlen 4
---   Row              what the definitions give, beside what 01 says
+--   leastBoundSet    ℓ 2, n 2, dX 1, dr 1, mlen 2, for rows of change requests: the least bound of all, 35, so every q from 36 to 2^31 - 1 is
+--                    accepted
+--   Row              what the definitions give, beside what 01, or a change request, says
 --   told..           an answer as a list: its number, then, where it is 0, the octets used, if it reports them, and the outputs; of keys the
 --                    length of the secret before both
 -- Assumes nothing.
@@ -19,6 +21,9 @@ setAWith mlen = record { l = 4; q = 1459; n = 2; dx = 1; dr = 1; mlen = mlen }
 
 abbrev pub setA : Parameters
 setA = setAWith 4
+
+abbrev pub leastBoundSet : ℕ → Parameters
+leastBoundSet q = record { l = 2; q = q; n = 2; dx = 1; dr = 1; mlen = 2 }
 
 -- ---- the octets of the cases
 

@@ -11,6 +11,7 @@ use mathlib.Core.List.{List}
 use Rattle.definitions.specs.Refusals.{Test, Answer, untouched, answer}
 use Rattle.definitions.specs.Parameters.{Parameters, monomialCount}
 use Rattle.definitions.specs.Calls.{lengthTests, KeygenExit, keygenLeaves, keygenAnswer, keygenExit, IsZeroExit, isZeroLeaves, isZeroAnswer, isZeroExit, EncryptExit, encryptLeaves, encryptAnswer, encryptExit, AddExit, addLeaves, addAnswer, addExit, DecryptExit, decryptLeaves, decryptAnswer, decryptExit}
+use Rattle.definitions.specs.MultiplyAdd.{MultiplyAddExit, multiplyAddLeaves, multiplyAddAnswer, multiplyAddExit}
 use Rattle.definitions.specs.Conversions.{conversionLeaves, fromOctetsAnswer, fromOctetsExit, toOctetsAnswer, toOctetsExit, packedFromAnswer, packedFromExit, packedToAnswer, packedToExit}
 use Rattle.definitions.proofs.Parameters.{accepted-set, key-degree-most, mask-degree-most}
 use Rattle.definitions.proofs.Exits.{exit-set}
@@ -49,6 +50,10 @@ module _ (s : Parameters) {r : Checked} (e : checkedAs r ≡ setAnswer s) where
         → _≡_ {A = DecryptExit} (record { refusal = k; message = message; work = work }) (decryptExit s secret ciphertext message work)
     unfolding decryptExit decryptAnswer
     decrypt-refused secret ciphertext message work = refused (λ x. decryptLeaves x message work) _ _ _
+
+    pub multiplyAdd-refused : (a b c : List ℕ) → _≡_ {A = MultiplyAddExit} (record { refusal = k; a = a; b = b; c = c }) (multiplyAddExit s a b c)
+    unfolding multiplyAddExit multiplyAddAnswer
+    multiplyAdd-refused a b c = refused (λ x. multiplyAddLeaves x a b c) _ _ _
 
     module _ (elements : ℕ) (given out : List ℕ) where
       pub decode-refused : record { refusal = k; converted = out } ≡ fromOctetsExit s elements given out

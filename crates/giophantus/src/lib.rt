@@ -7,12 +7,13 @@ pub mod conversion;
 ghost use mathlib.Core.Path.{_≡_};
 ghost use Rattle.definitions.specs.Refusals.{firstRefusal};
 ghost use Rattle.definitions.specs.Parameters.{setTests};
-ghost use Rattle.definitions.specs.Contracts.{Bounds, Measures, Makes, TellsZero, Encrypts, Adds, Decrypts};
+ghost use Rattle.definitions.specs.Contracts.{Bounds, Measures, Makes, TellsZero, Encrypts, Adds, Decrypts, MultipliesAndAdds};
 ghost use Rattle.giophantus.specs.Interface.{set};
 use addition::add;
 use decryption::decrypt;
 use encryption::encrypt;
 use key_generation::keygen;
+use multiply_add::multiply_add;
 use parameters::Checked;
 use parameters::Parameters;
 use zero_test::is_zero;
@@ -191,6 +192,27 @@ pub extern "C" fn giophantus_decrypt(
 {
     match Parameters::new(l, q, n, dx, dr, mlen) {
         Checked::Accepted(p) => decrypt(p, secret_key, ciphertext, message, work),
+        Checked::Refused(k) => k,
+    }
+}
+
+// a × b + c in R_q, three elements as words: c and the result in the same words. a and b stay, and may be one buffer.
+#[no_mangle]
+pub extern "C" fn giophantus_multiply_add(
+    l: u32,
+    q: u32,
+    n: u32,
+    dx: u32,
+    dr: u32,
+    mlen: u32,
+    a: &[u32],
+    b: &[u32],
+    c: &mut [u32],
+) -> u32
+    ensures { λ r. ⌜ MultipliesAndAdds (set l q n dx dr mlen) a b c r ⌝ }
+{
+    match Parameters::new(l, q, n, dx, dr, mlen) {
+        Checked::Accepted(p) => multiply_add(p, a, b, c),
         Checked::Refused(k) => k,
     }
 }

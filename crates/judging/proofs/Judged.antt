@@ -10,12 +10,12 @@ use mathlib.Core.Path.{_≡_, refl, sym, ap, _∙_}
 use mathlib.Core.Bool.{Bool, true, false}
 use mathlib.Core.List.{List, []}
 use borrow.Author.Tests.{not-false}
-use lib.Dec.{lit<}
+use lib.Dec.{eqb, lit<}
 use lib.ListN.{length}
 use Rattle.definitions.specs.Parameters.{Parameters, qlen, elementsLength}
 use Rattle.definitions.specs.Octets.{coefficientAt, decoded, coefficientsFit}
 use Rattle.definitions.specs.Calls.{decodedElements, elementsFit}
-use Rattle.definitions.proofs.Refusals.{firstRefusal-passed, firstRefusal-last}
+use Rattle.definitions.proofs.Refusals.{firstRefusal-passed, firstRefusal-last, firstRefusal-zero}
 use Rattle.definitions.proofs.Octets.{length-decoded, getD-decoded, coefficientsFit-true}
 use Rattle.definitions.proofs.Parameters.{Accepted, elementsLength-count}
 use Rattle.judging.specs.Reading.{coefficientNumber, fitNumber}
@@ -40,6 +40,11 @@ fitNumber-fits q xs = number-fits (coefficientsFit q xs)
 pub fitNumber-refused : (q : ℕ) (xs : List ℕ) → (fitNumber q xs ≡ 0 → ⊥) → coefficientsFit q xs ≡ false
 unfolding fitNumber
 fitNumber-refused q xs = number-refused (coefficientsFit q xs)
+
+-- the number, compared with 0, is whether each coefficient fits
+pub fitNumber-test : (q : ℕ) (xs : List ℕ) {r : ℕ} → r ≡ fitNumber q xs → eqb r 0 ≡ coefficientsFit q xs
+unfolding fitNumber
+fitNumber-test q xs e = ap (λ (r : ℕ). eqb r 0) e ∙ firstRefusal-zero 7 (coefficientsFit q xs)
 
 module _ (p : Parameters) (set : Accepted p) (elements : ℕ) (octets : List ℕ)
     (exact : length octets ≡ elementsLength p elements) {len r : ℕ} (e : len ≡ qlen (p .q))

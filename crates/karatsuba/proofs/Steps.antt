@@ -31,9 +31,6 @@ kept-at from old new {q} kept fit ring j l s =
     let place : from + (j - from) ≡ j = omega arith in
     rw (kept j (omega arith)) (subst (λ (i : ℕ). getD old i 0 < q) place (ring (j - from) (omega arith)))
 
-pub inside-ring : {q at n : ℕ} {f : ℕ → ℕ} {old new : List ℕ} → Wrote at n f old new → InRing q n f → InRing q n (part new at)
-inside-ring w ring k l = rw (w .inside k l) (ring k l)
-
 -- a product is reduced
 pub multiplied-ring : {q m a b at free : ℕ} {old new : List ℕ} → 0 < q → Multiplied q m a b at free old new → InRing q (m + m) (part new at)
 multiplied-ring pos p k l = rw (p .same k l) (mod-lt _ pos)

@@ -8,6 +8,7 @@ ghost use mathlib.Core.Path.{_≡_};
 ghost use Prim.Native.Nat.{_≤_};
 ghost use Rattle.definitions.specs.Parameters.{bitLength, qlen, smallLength, secretLength, elementsLength, publicLength, ciphertextLength, messageLength, workLength};
 ghost use Rattle.definitions.specs.Calls.{keysExact, encryptExact, addExact, decryptExact};
+ghost use Rattle.definitions.specs.MultiplyAdd.{multiplyAddExact};
 ghost use Rattle.definitions.specs.Demand3.{AcceptedSet};
 ghost use Rattle.parameters.specs.Answers.{setFrom};
 
@@ -103,6 +104,14 @@ pub fn add_exact(p: Parameters, a: usize, b: usize, sum: usize) -> bool
 {
     let length = ciphertext_length(p);
     (a == length) & ((b == length) & (sum == length))
+}
+
+// Two factors and a summand, as words.
+pub fn multiply_add_exact(p: Parameters, a: usize, b: usize, c: usize) -> bool
+    ensures { λ r. ⌜ r ≡ multiplyAddExact (setFrom p) a b c ⌝ }
+{
+    let n = p.n as usize;
+    (a == n) & ((b == n) & (c == n))
 }
 
 // What decryption is lent.

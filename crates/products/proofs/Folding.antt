@@ -7,16 +7,18 @@ use native.Mathlib.Omega.{arith}
 use native.Mathlib.Decide.{decLt, ℕ-discrete}
 use mathlib.Core.Path.{_≡_, sym, _∙_, ap}
 use mathlib.Core.List.{List}
-use lib.ListN.{getD}
+use lib.ListN.{getD, length}
 use Rattle.definitions.specs.Sequences.{sum, sameNumber, tabulate}
-use Rattle.definitions.specs.Ring.{Element, InRing, conv}
+use Rattle.definitions.specs.Ring.{Element, InRing, conv, multiplyAdd}
 use Rattle.definitions.proofs.Sums.{sameNumber-self, sameNumber-other, sum-cong, sum-add, sum-zero, sum-append, tabulate-cong}
 use Rattle.definitions.proofs.Congruence.{Cong, cong-refl, cong-mod, cong-add}
 use Rattle.definitions.proofs.Ring.{conv-le}
-use Rattle.ring.specs.Work.{part, written}
+use Rattle.ring.specs.Work.{part, written, Apart, productAdded}
 use Rattle.ring.specs.Linear.{linear}
 use Rattle.ring.proofs.Linear.{linear-cong}
+use Rattle.ring.proofs.Work.{part-written, part-apart}
 use Rattle.rows.proofs.Bounds.{eighty-small}
+use Rattle.products.specs.Products.{MultipliedInPlace}
 use Rattle.products.proofs.Loading.{Loaded}
 
 sum-padded : (n m : ℕ) (f : ℕ → ℕ) → n ≤ m → ((i : ℕ) → n ≤ i → i < m → f i ≡ 0) → sum m f ≡ sum n f
@@ -82,7 +84,8 @@ module _ (n m q : ℕ) (a b f g p : Element) (fits : n ≤ m) (left : Loaded n m
       rw (conv-linear n a b l) (cong-add (cong-add (product-cong k (omega arith)) (product-cong (n + k) (omega arith))) (cong-refl {x = x}) .same)
 
   pub product-added : (at : ℕ) (old : List ℕ) {new : List ℕ} → new ≡ written at (tabulate n (λ k. (p k + p (n + k) + part old at k) % q)) old
-      → new ≡ written at (tabulate n (λ k. (conv n a b k + part old at k) % q)) old
+      → new ≡ written at (tabulate n (multiplyAdd q n a b (part old at))) old
+  unfolding multiplyAdd
   product-added at old e = e ∙ ap (λ (l : List ℕ). written at l old) (tabulate-cong n (λ k l. product-folded (part old at k) l))
 
 -- ---- sums that are not reduced
@@ -98,5 +101,19 @@ module _ (n q : ℕ) (a b : Element) (low : List ℕ) (same : (k : ℕ) → getD
 
   pub sums-added : (at : ℕ) (old : List ℕ) {new : List ℕ}
       → new ≡ written at (tabulate n (λ k. (getD low k 0 + getD low (n + k) 0 + part old at k) % q)) old
-      → new ≡ written at (tabulate n (λ k. (conv n a b k + part old at k) % q)) old
+      → new ≡ written at (tabulate n (multiplyAdd q n a b (part old at))) old
+  unfolding multiplyAdd
   sums-added at old e = e ∙ ap (λ (l : List ℕ). written at l old) (tabulate-cong n (λ k l. ap (λ (x : ℕ). (x + part old at k) % q) (sums-folded l)))
+
+-- ---- what a product added in place says of the three elements
+pub multiplied-in-place : {q n a b c : ℕ} {old new : List ℕ} → c + n ≤ length old → Apart c a n → Apart c b n → new ≡ productAdded n q a b c old → MultipliedInPlace q n a b c old new
+multiplied-in-place {q} {n} {a} {b} {c} {old} {new} room first second e =
+    let f : Element = multiplyAdd q n (part old a) (part old b) (part old c) in
+    let stays : (from : ℕ) → Apart c from n → (k : ℕ) → k < n → part new from k ≡ part old from k =
+    λ from apart k l. ap (λ (w : List ℕ). part w from k) e ∙ part-apart c from n n f old (omega arith) room apart l
+    in
+    record {
+      holds = λ k l. ap (λ (w : List ℕ). part w c k) e ∙ part-written c n f old (omega arith) l;
+      first-stays = stays a first;
+      second-stays = stays b second;
+    }

@@ -1,23 +1,23 @@
-// Products in R_q over the work words (01, "Ring, monomials, octets"): the product of two polynomials by Karatsuba, in an array of its
-// own, then t^n = 1 and c by sums of two coefficients; a short one is summed row by row from where its factors stand, and reduced once
-// before c is added. Nothing is refused: callers keep parts within the words and coefficients below q. Contracts cite ring's
-// productAdded; those of the steps also specs/Products.antt.
+// a × b + c in R_q over a list of words (01, "Ring, monomials, octets"; 02, Q-8), with c and the result in the same words: the one product of
+// two elements that the calls take. The product of two polynomials is taken by Karatsuba, in an array of its own, then t^n = 1 and c by
+// sums of two coefficients; a short one is summed row by row from where its factors stand, and reduced once before c is added. Nothing is
+// refused: callers keep parts within the words, c apart from a and b, and coefficients below q. The contract of multiply_add cites ring's
+// productAdded for all words, and MultipliedInPlace for the three; the steps' contracts cite the rest of specs/Products.antt.
 ghost use mathlib.Core.Path.{_≡_};
 ghost use Prim.Native.Nat.{ℕ, _+_, _*_, _%_, _<_, _≤_};
 ghost use lib.ListN.{length, getD};
 ghost use Rattle.definitions.specs.Sequences.{tabulate};
 ghost use Rattle.definitions.specs.Ring.{InRing, elementOf};
-ghost use Rattle.ring.specs.Work.{part, written, productAdded};
+ghost use Rattle.ring.specs.Work.{part, written, Apart, productAdded};
 ghost use Rattle.reduction.specs.Moduli.{Reciprocal};
-ghost use Rattle.products.specs.Products.{ProductFits, withProduct, Fit};
+ghost use Rattle.products.specs.Products.{ProductFits, withProduct, MultipliedInPlace, Fit};
 use karatsuba::Halving;
 use reduction::Modulus;
 
 // The most coefficients of a product that is summed row by row.
 const SHORT: usize = 80;
 
-// The product a × b + c in R_q, to be taken in place: the elements of n coefficients stand from these offsets on in the work words, and top
-// is a bound of b's coefficients.
+// a × b + c in R_q, to be taken in place: the elements of n coefficients stand from these offsets on in the words, and b's are below top.
 struct Product {
     a: usize,
     b: usize,
@@ -92,7 +92,7 @@ fn short(work: &mut [u32], p: Product, modulus: Modulus)
     fold_sums(work, p.c, p.n, modulus, &low);
 }
 
-// The product of p in other words: a from 0 on and b from m on, each filled up with 0, their product from 2 m on, and behind it the words
+// The product of p in a list of its own: a from 0 on and b from m on, each filled up with 0, their product from 2 m on, and behind it the words
 // that Karatsuba's product needs.
 fn multiply_in(work: &mut [u32], p: Product, modulus: Modulus, h: Halving, words: &mut [u32])
     requires { ⌜ ProductFits p modulus (now work) × Fit (p .n) h × (6 * h .m ≤ length (now words)) × InRing 1 (2 * h .m) (elementOf (now words)) ⌝ }
@@ -107,7 +107,7 @@ fn multiply_in(work: &mut [u32], p: Product, modulus: Modulus, h: Halving, words
     fold(work, p.c, p.n, modulus.q, words, at);
 }
 
-// The same in an array of the least of three sizes: what it is cleared by is then little beside the product.
+// The same in an array of the least of three sizes: clearing it then costs little beside the product.
 fn multiply_long(work: &mut [u32], p: Product, modulus: Modulus)
     requires { ⌜ ProductFits p modulus (now work) × (p .n ≤ 4096) ⌝ }
     ensures { λ _. ⌜ now (work .exit) ≡ withProduct p (modulus .q) (now (work .entry)) ⌝ }
@@ -128,11 +128,13 @@ fn multiply_long(work: &mut [u32], p: Product, modulus: Modulus)
     multiply_in(work, p, modulus, h, &mut words);
 }
 
-// In place c := a × b + c in R_q; top is a bound of b's coefficients. All other words are kept.
+// In place c := a × b + c in R_q; b's coefficients are below top: q, or less for a small factor. a and b, which may be one, stay, and so do
+// all other words.
 pub fn multiply_add(work: &mut [u32], a: usize, b: usize, c: usize, n: usize, q: u32, top: u32)
     requires { ⌜ (a + n ≤ length (now work)) × (b + n ≤ length (now work)) × (c + n ≤ length (now work)) × (n ≤ 4096) × (0 < top) × (top ≤ q) × (q < 2147483648) ⌝ }
-    requires { ⌜ InRing q n (part (now work) a) × InRing top n (part (now work) b) × InRing q n (part (now work) c) ⌝ }
+    requires { ⌜ Apart c a n × Apart c b n × InRing q n (part (now work) a) × InRing top n (part (now work) b) × InRing q n (part (now work) c) ⌝ }
     ensures { λ _. ⌜ now (work .exit) ≡ productAdded n q a b c (now (work .entry)) ⌝ }
+    ensures { λ _. ⌜ MultipliedInPlace q n a b c (now (work .entry)) (now (work .exit)) ⌝ }
 {
     let modulus = reduction::with_reciprocal(q);
     let p = Product {

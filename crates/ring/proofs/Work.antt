@@ -11,7 +11,7 @@ use mathlib.Core.Path.{_≡_, refl, sym, _∙_, ap, ap₂, subst}
 use mathlib.Core.Logic.{⊎-elim}
 use mathlib.Core.List.{List, [], _∷_, _++_, append-assoc}
 use lib.ListN.{length, getD, take, drop, set, length-append, length-set, length-take, length-drop, take-append-drop, List·getD-append}
-use lib.Seq.{drop-cons, set-at, take-at, drop-at, getD-append-add, getD-take, getD-drop, length-take-le}
+use lib.Seq.{drop-cons, set-at, take-all, take-at, drop-at, getD-append-add, getD-take, getD-drop, length-take-le}
 use Rattle.definitions.specs.Sequences.{tabulate}
 use Rattle.definitions.specs.Ring.{InRing}
 use Rattle.definitions.proofs.Sums.{length-tabulate, getD-tabulate}
@@ -139,6 +139,11 @@ written-part at n f old h =
     rw (whole, drop-at (take at old) (tabulate n f ++ drop (at + length (tabulate n f)) old) at (length-take-le at old h))
     (take-at (tabulate n f) _ n (length-tabulate n f))
 
+-- a list written over one of its length is all there is
+pub written-whole : (n : ℕ) (f : ℕ → ℕ) (old : List ℕ) → length old ≡ n → written 0 (tabulate n f) old ≡ tabulate n f
+written-whole n f old e =
+    sym (take-all (0 + n - 0) _ (omega (arith, length-written-tabulate 0 n f old (omega arith)))) ∙ written-part 0 n f old zero-le
+
 -- what is written over what was written
 pub written-written : (at : ℕ) (new mid old : List ℕ) → length new ≡ length mid → at + length mid ≤ length old
     → written at new (written at mid old) ≡ written at new old
@@ -166,3 +171,6 @@ wrote {at} {n} {f} {old} {new} fit e = record {
   before = λ k l. ap (λ (x : List ℕ). getD x k 0) e ∙ getD-written-before at (tabulate n f) old (omega arith) l;
   after = λ k l. ap (λ (x : List ℕ). getD x k 0) e ∙ getD-written-after at (tabulate n f) old (omega arith) (omega (arith, length-tabulate n f));
 }
+
+pub inside-ring : {q at n : ℕ} {f : ℕ → ℕ} {old new : List ℕ} → Wrote at n f old new → InRing q n f → InRing q n (part new at)
+inside-ring w ring k l = rw (w .inside k l) (ring k l)

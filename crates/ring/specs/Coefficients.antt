@@ -2,7 +2,6 @@
 --
 --   shiftSum         a + b, and q taken off where bit 31 of a + b + (2^31 - q) is 1 (a shift by 31 is the quotient by 2^31)
 --   ShiftSums        for every q of an accepted set and every pair below q this is the sum modulo q
---   leastSet         ℓ 2, n 2, dX 1, dr 1, mlen 2: accepted with the least q of all, 36, and with every larger one up to 2^31 - 1
 --   row              what a row says of q, a, b and their sum: a set with this q is accepted, both are below it, and both sides of ShiftSums give the sum
 --   sumRows          pairs with the sums q - 1, q, q + 1 and 2 q - 2, at the least q, 2^16 - 1, 2^16, 2^24 and the largest q
 -- Assumes nothing.
@@ -12,7 +11,7 @@ use mathlib.Core.List.{List, [], _∷_}
 use Rattle.definitions.specs.Refusals.{firstRefusal}
 use Rattle.definitions.specs.Parameters.{Parameters, setTests}
 use Rattle.definitions.specs.Demand3.{AcceptedSet}
-use Rattle.definitions.specs.WorkedCases.{Row}
+use Rattle.definitions.specs.WorkedCases.{Row, leastBoundSet}
 
 unfoldable pub shiftSum : ℕ → ℕ → ℕ → ℕ
 shiftSum q a b = a + b - q * ((a + b + (2147483648 - q)) / 2147483648)
@@ -22,13 +21,10 @@ ShiftSums = (p : Parameters) → AcceptedSet p → (a b : ℕ) → a < p .q → 
 
 -- ---- the table
 
-abbrev leastSet : ℕ → Parameters
-leastSet q = record { l = 2; q = q; n = 2; dx = 1; dr = 1; mlen = 2 }
-
 row : ℕ → ℕ → ℕ → ℕ → Row
 row q a b sum =
     record {
-      given = firstRefusal (setTests (leastSet q)) ∷ a % q ∷ b % q ∷ shiftSum q a b ∷ (a + b) % q ∷ [];
+      given = firstRefusal (setTests (leastBoundSet q)) ∷ a % q ∷ b % q ∷ shiftSum q a b ∷ (a + b) % q ∷ [];
       expected = 0 ∷ a ∷ b ∷ sum ∷ sum ∷ [];
     }
 

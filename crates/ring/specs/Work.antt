@@ -1,4 +1,4 @@
--- How ring elements stand in the work words: each n words in a row, from an offset on.
+-- How ring elements stand in a list of words, such as the work words: each n words in a row, from an offset on.
 --
 --   part             the element that stands at an offset
 --   written          the words with a list written over them from an offset on; all others as they were
@@ -14,7 +14,7 @@ use mathlib.Core.Logic.{_⊎_}
 use mathlib.Core.List.{List, _++_}
 use lib.ListN.{getD, take, drop, length}
 use Rattle.definitions.specs.Sequences.{tabulate}
-use Rattle.definitions.specs.Ring.{Element, conv}
+use Rattle.definitions.specs.Ring.{Element, multiplyAdd}
 
 abbrev pub part : List ℕ → ℕ → Element
 part work at k = getD work (at + k) 0
@@ -26,7 +26,7 @@ abbrev pub Apart : ℕ → ℕ → ℕ → Type 0
 Apart a b n = (a + n ≤ b) ⊎ (b + n ≤ a)
 
 abbrev pub productAdded : ℕ → ℕ → ℕ → ℕ → ℕ → List ℕ → List ℕ
-productAdded n q a b c work = written c (tabulate n (λ k. (conv n (part work a) (part work b) k + part work c k) % q)) work
+productAdded n q a b c work = written c (tabulate n (multiplyAdd q n (part work a) (part work b) (part work c))) work
 
 abbrev pub elementAdded : ℕ → ℕ → ℕ → ℕ → List ℕ → List ℕ
 elementAdded n q e c work = written c (tabulate n (λ k. (part work c k + part work e k) % q)) work

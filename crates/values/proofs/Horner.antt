@@ -14,7 +14,7 @@ use native.Mathlib.Numerals.{add-one}
 use native.Mathlib.Omega.{arith}
 use Rattle.definitions.specs.Sequences.{sum, every, tabulate}
 use Rattle.definitions.specs.Parameters.{monomialCount}
-use Rattle.definitions.specs.Ring.{Element, conv, one, power}
+use Rattle.definitions.specs.Ring.{Element, conv, one, power, multiplyAdd}
 use Rattle.definitions.specs.Monomials.{Polynomial, monomialAt, monomials, ofDegree, evaluated, valueOver, value}
 use Rattle.definitions.proofs.Sums.{sum-cong, sum-append, every-true, every-at}
 use Rattle.definitions.proofs.Congruence.{cong-trans, cong-of-eq, cong-mod, cong-add}
@@ -58,7 +58,7 @@ horner-cong n hu (suc c) hh k l = ap₂ _+_ (conv-cong n (horner-cong n hu c (λ
 
 pub horner-stepped : (n q : ℕ) (u : Element) (h : ℕ → Element) (c : ℕ) {a v x : Element} → (0 < c → (i : ℕ) → i < n → a i ≡ horner n u h c i % q)
     → ((i : ℕ) → i < n → v i ≡ u i) → ((i : ℕ) → i < n → x i ≡ h c i % q) → (k : ℕ) → k < n → stepped n q c a v x k ≡ horner n u h (suc c) k % q
-unfolding stepped horner
+unfolding stepped horner multiplyAdd
 horner-stepped n q u h zero ha hv hx k l =
     hx k l ∙ ap (λ (y : ℕ). y % q) (sym (ap (λ (y : ℕ). y + h 0 k) (conv-zero-left n u (λ i s. refl) k) ∙ zero-add (h 0 k)))
 horner-stepped n q u h (suc c) ha hv hx k l =

@@ -16,7 +16,7 @@ use native.Mathlib.Omega.{arith}
 use lib.ListN.{length, getD}
 use Rattle.definitions.specs.Sequences.{every, tabulate}
 use Rattle.definitions.specs.Parameters.{monomialCount}
-use Rattle.definitions.specs.Ring.{Element, InRing, conv}
+use Rattle.definitions.specs.Ring.{Element, InRing, multiplyAdd}
 use Rattle.definitions.specs.Octets.{decoded, coefficientsFit}
 use Rattle.definitions.specs.Calls.{polynomialIn}
 use Rattle.definitions.proofs.Sums.{length-tabulate, getD-tabulate}
@@ -69,7 +69,7 @@ placed-written {n} {at} {f} old room e =
 
 -- ---- one step
 
-stepped-some : (n q c : ℕ) (a u x : Element) → 0 < c → (k : ℕ) → (conv n a u k + x k) % q ≡ stepped n q c a u x k
+stepped-some : (n q c : ℕ) (a u x : Element) → 0 < c → (k : ℕ) → multiplyAdd q n a u x k ≡ stepped n q c a u x k
 unfolding stepped
 stepped-some n q zero a u x z k = absurd (omega (arith, z))
 stepped-some n q (suc c) a u x z k = refl

@@ -9,13 +9,13 @@
 --   fitsAt           whether the coefficients of the element at a place of the octets are below q;  rowFits: of a row's elements
 --   Placed           an element was written at an offset, and all before it is as it was
 -- Assumes nothing.
-use Prim.Native.Nat.{ℕ, zero, suc, _+_, _-_, _%_, _<_}
+use Prim.Native.Nat.{ℕ, zero, suc, _+_, _-_, _<_}
 use mathlib.Core.Path.{_≡_}
 use mathlib.Core.Bool.{Bool}
 use mathlib.Core.List.{List}
 use lib.ListN.{length, getD}
 use Rattle.definitions.specs.Sequences.{sum, every, tabulate}
-use Rattle.definitions.specs.Ring.{Element, conv}
+use Rattle.definitions.specs.Ring.{Element, conv, multiplyAdd}
 use Rattle.definitions.specs.Monomials.{Polynomial}
 use Rattle.definitions.specs.Octets.{coefficientsFit}
 use Rattle.definitions.specs.Calls.{polynomialIn}
@@ -27,7 +27,7 @@ horner n u h (suc c) k = conv n (horner n u h c) u k + h c k
 
 unfoldable pub stepped : ℕ → ℕ → ℕ → Element → Element → Element → Element
 stepped n q zero a u x k = x k
-stepped n q (suc c) a u x k = (conv n a u k + x k) % q
+stepped n q (suc c) a u x k = multiplyAdd q n a u x k
 
 unfoldable pub starts : ℕ → ℕ → ℕ
 starts d s = sum s (λ i. d + 1 - i)

@@ -360,6 +360,50 @@ pub fn decrypt(
     (number, message.contents())
 }
 
+/// The number and c's buffer, which held this c before.
+#[inline]
+pub fn multiply_add(run: &mut Run, set: Set, a: &[u32], b: &[u32], c: &[u32]) -> (u32, Vec<u32>) {
+    let prng = &mut run.prng;
+    let mut a = Buffer::given("a", a, prng);
+    let mut b = Buffer::given("b", b, prng);
+    let mut c = Buffer::given("c", c, prng);
+    run.announce("multiply_add", set);
+    let number = ffi::multiply_add(set, a.slice(), b.slice(), c.slice_mut());
+    let wanted = reference::multiply_add(set, a.wanted(), b.wanted(), c.wanted());
+    run.judge(Made {
+        call: "multiply_add",
+        set,
+        number,
+        wanted,
+        inputs: &[&a, &b],
+        outputs: &[&c],
+        work: None,
+    });
+    (number, c.contents())
+}
+
+/// Both factors in one buffer: the number and c's buffer.
+#[inline]
+pub fn square_add(run: &mut Run, set: Set, a: &[u32], c: &[u32]) -> (u32, Vec<u32>) {
+    let prng = &mut run.prng;
+    let mut a = Buffer::given("a", a, prng);
+    let mut c = Buffer::given("c", c, prng);
+    run.announce("multiply_add", set);
+    let number = ffi::multiply_add(set, a.slice(), a.slice(), c.slice_mut());
+    let same = a.wanted().to_vec();
+    let wanted = reference::multiply_add(set, &same, &same, c.wanted());
+    run.judge(Made {
+        call: "multiply_add",
+        set,
+        number,
+        wanted,
+        inputs: &[&a],
+        outputs: &[&c],
+        work: None,
+    });
+    (number, c.contents())
+}
+
 /// What a conversion is about.
 #[derive(Clone, Copy, PartialEq, Eq)]
 pub enum Kind {

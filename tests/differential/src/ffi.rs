@@ -76,6 +76,7 @@ interface! {
     decrypt as giophantus_decrypt(
         secret_key: &[u8], ciphertext: &[u8], message: &mut [u8], work: &mut [u32]
     );
+    multiply_add as giophantus_multiply_add(a: &[u32], b: &[u32], c: &mut [u32]);
     element_from_octets as giophantus_element_from_octets(octets: &[u8], words: &mut [u32]);
     element_to_octets as giophantus_element_to_octets(words: &[u32], octets: &mut [u8]);
     small_from_octets as giophantus_small_from_octets(octets: &[u8], words: &mut [u32]);

@@ -2,9 +2,9 @@
 //!
 //! Each group of calls has a program of its own (`limits`, `conversions`, `calls`), which links
 //! only the functions of its group. Whatever is passed to the library lies between guards; every
-//! output is filled with garbage first. After each call the number, every output, the work words,
-//! the inputs and the guards are compared with what the reference implementation made of the same
-//! arguments.
+//! output that isn't an input too is filled with garbage first. After each call the number, every
+//! output, the work words, the inputs and the guards are compared with what the reference
+//! implementation made of the same arguments.
 
 #![deny(unsafe_code)]
 

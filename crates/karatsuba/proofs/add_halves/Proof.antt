@@ -5,9 +5,9 @@ use native.Mathlib.Omega.{arith}
 use borrow.Author.Needs.{needs}
 use mathlib.Core.Logic.{inr}
 use Rattle.ring.specs.Work.{part}
-use Rattle.ring.proofs.Work.{Wrote, wrote}
+use Rattle.ring.proofs.Work.{Wrote, wrote, inside-ring}
 use Prim.Native.Nat.{_+_, _%_}
-use Rattle.karatsuba.proofs.Steps.{kept-ring, kept-at, inside-ring, wrote-sum, halves-added}
+use Rattle.karatsuba.proofs.Steps.{kept-ring, kept-at, wrote-sum, halves-added}
 use Rattle.karatsuba.proofs.add_halves.Statement.{statement}
 use Rattle.karatsuba.proofs.add_halves.Tie as tie
 

@@ -7,9 +7,9 @@ use mathlib.Core.Path.{refl}
 use mathlib.Core.Logic.{inl, inr}
 use Rattle.definitions.specs.Ring.{InRing}
 use Rattle.ring.specs.Work.{part}
-use Rattle.ring.proofs.Work.{wrote}
+use Rattle.ring.proofs.Work.{wrote, inside-ring}
 use Prim.Native.Nat.{_+_}
-use Rattle.karatsuba.proofs.Steps.{lower-ring, kept-ring, kept-at, inside-ring, joined}
+use Rattle.karatsuba.proofs.Steps.{lower-ring, kept-ring, kept-at, joined}
 use Rattle.karatsuba.proofs.join.Statement.{statement}
 use Rattle.karatsuba.proofs.join.Tie as tie
 

@@ -10,8 +10,7 @@ use Rattle.definitions.proofs.Parameters.{key-degree-most, mask-degree-most}
 use Rattle.definitions.proofs.Ring.{conv-cong}
 use Rattle.parameters.specs.Answers.{setFrom}
 use Rattle.monomials.proofs.Table.{flag-none, flag-one}
-use Rattle.ring.proofs.Work.{Wrote, wrote}
-use Rattle.karatsuba.proofs.Steps.{inside-ring}
+use Rattle.ring.proofs.Work.{Wrote, wrote, inside-ring}
 use Rattle.mask_products.specs.Products.{pairTerm}
 use Rattle.mask_products.proofs.Sums.{inputs-set, inputs-room, mask-few, key-below, spare-mask, spare-sum, gains-none, gains-spare}
 use Rattle.mask_products.proofs.add_pair.Statement.{statement}

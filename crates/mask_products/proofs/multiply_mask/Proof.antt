@@ -4,9 +4,11 @@ use Prim.Native.Nat.{ℕ, _+_, _%_}
 use native.Mathlib.Nat.{add-comm}
 use native.Mathlib.Omega.{arith}
 use mathlib.Core.Path.{refl, sym, _∙_, ap}
+use mathlib.Core.Logic.{inr}
 use borrow.Author.Needs.{needs}
 use Rattle.definitions.proofs.Parameters.{accepted-set, modulus-positive}
 use Rattle.definitions.proofs.Ring.{conv-cong}
+use Rattle.definitions.proofs.MultiplyAdd.{multiplyAdd-at}
 use Rattle.parameters.specs.Answers.{setFrom}
 use Rattle.ring.proofs.Work.{wrote}
 use Rattle.mask_products.specs.Products.{sumIn}
@@ -30,8 +32,9 @@ returns c =
     let room = work-words p (a .work .now) (s .pre .0 .1) in
     record {
       is =
-          sum-wrote p (wrote (omega arith) (c .before .before .multiply-add .ensures)) (λ k l.
-          ap (λ (x : ℕ). x % p .q)
+          sum-wrote p (wrote (omega arith) (c .before .before .multiply-add .ensures .0)) (λ k l.
+          multiplyAdd-at (p .q) (p .n) _ _ _ k
+          ∙ ap (λ (x : ℕ). x % p .q)
           (add-comm _ _
           ∙ ap (λ (x : ℕ). sumIn p (a .work .now) k + x) (conv-cong (p .n) (λ i b. refl) (λ i b. sym (mask-at p (a .work .now) (s .pre .0 .2) b)) k)));
     }
@@ -45,7 +48,7 @@ multiply-add-requires c κs =
     let room = work-words p (a .work .now) (s .pre .0 .1) in
     let inside = part-room (p .n) (a .j) 6 (s .pre .0 .2) in (
       (omega arith, omega arith, omega arith, set .ring-most, modulus-positive p set, omega arith, omega (arith, set .modulus-most)),
-      (s .pre .1 .0, λ k l. rw (← mask-at p (a .work .now) (s .pre .0 .2) l) (s .pre .1 .1 k l), s .pre .1 .2),
+      (inr (omega arith), inr (omega arith), s .pre .1 .0, λ k l. rw (← mask-at p (a .work .now) (s .pre .0 .2) l) (s .pre .1 .1 k l), s .pre .1 .2),
     )
 
 pub multiply-mask-spec : {M : Type 1} → statement M

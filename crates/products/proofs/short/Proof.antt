@@ -11,9 +11,6 @@ use Rattle.products.proofs.short.Tie as tie
 abbrev start : tie.After-sums → tie.Start
 start c = c .before .before .before .before
 
-sums-requires : tie.Need-sums-requires
-sums-requires c κs = let within = c .before .before .before .pre .0 in (search needs, (within .first-ring, within .second-ring))
-
 returns : tie.Need-returns
 returns c =
     let folded = c .before .before in
@@ -22,6 +19,9 @@ returns c =
     let w = a .work .now in
     sums-added (a .p .n) (a .modulus .q) (part w (a .p .a)) (part w (a .p .b)) (rows .sums .last .1 .1 .1 .1 .1 .1 .0) (rows .sums .ensures) (a .p .c) w
     (folded .fold-sums .ensures)
+
+sums-requires : tie.Need-sums-requires
+sums-requires c κs = let within = c .before .before .before .pre .0 in (search needs, (within .first-ring, within .second-ring))
 
 fold-sums-requires : tie.Need-fold-sums-requires
 fold-sums-requires c κs =

@@ -5,8 +5,7 @@ use native.Mathlib.Omega.{arith}
 use borrow.Author.Needs.{needs}
 use Rattle.definitions.specs.Parameters.{monomialCount}
 use Rattle.parameters.specs.Answers.{setFrom}
-use Rattle.ring.proofs.Work.{wrote}
-use Rattle.karatsuba.proofs.Steps.{inside-ring}
+use Rattle.ring.proofs.Work.{wrote, inside-ring}
 use Rattle.shared_products.specs.Sharing.{keyIn}
 use Rattle.shared_products.proofs.Turns.{sum-written}
 use Rattle.shared_products.proofs.Terms.{shared-set, shared-room, key-inside}

@@ -11,8 +11,7 @@ use Rattle.definitions.specs.Calls.{polynomialFrom}
 use Rattle.definitions.proofs.Parameters.{modulus-positive}
 use Rattle.definitions.proofs.Ring.{conv-cong}
 use Rattle.parameters.specs.Answers.{setFrom}
-use Rattle.ring.proofs.Work.{Wrote, wrote}
-use Rattle.karatsuba.proofs.Steps.{inside-ring}
+use Rattle.ring.proofs.Work.{Wrote, wrote, inside-ring}
 use Rattle.mask_products.specs.Products.{maskIn, KeyAndMask, SumIs}
 use Rattle.mask_products.proofs.Sums.{part-room, inputs-set, inputs-room, key-few, key-below, inputs-kept, spare-mask, spare-sum, sum-inRing, sum-then, gains-spare}
 use Rattle.shared_products.proofs.Terms.{element-prepared}

@@ -11,12 +11,15 @@ use Rattle.values.proofs.step.Tie as tie
 multiply-add-requires : tie.Need-multiply-add-requires
 multiply-add-requires c κs =
     let s = c .before .before .before in
-    ((omega arith, omega arith, omega arith, s .pre .0 .3, omega arith, s .pre .0 .4, s .pre .0 .5), (s .pre .1 .0 (c .before .if1 .taken), s .pre .1 .1, s .pre .1 .2))
+    let p = s .pre .0 in (
+      (omega arith, omega arith, omega arith, p .3, omega arith, p .4, p .5),
+      (inr (p .1), inr (omega (arith, p .0, p .1)), s .pre .1 .0 (c .before .if1 .taken), s .pre .1 .1, s .pre .1 .2),
+    )
 
 added : (c : tie.Joined1) →
     let a = c .before .before .args in
     Added (a .n) (a .q) (a .count) (a .at) (a .factor) (a .next) (a .work .now) (c .if1 .work)
-added c = record { came = ⊎-elim (λ w. inl (w .0 .taken, w .5 ∙ w .2 .ensures)) (λ w. inr (w .0 .left, w .1)) (c .if1 .came) }
+added c = record { came = ⊎-elim (λ w. inl (w .0 .taken, w .5 ∙ w .2 .ensures .0)) (λ w. inr (w .0 .left, w .1)) (c .if1 .came) }
 
 long : (c : tie.Joined1) → length (c .if1 .work) ≡ length (c .before .before .args .work .now)
 long c = added-length (c .before .before .pre .0 .2) (added c)

@@ -6,7 +6,7 @@ use std::fs::File;
 use std::io::{self, Read, Write};
 use std::path::Path;
 
-use giophantus::{Ciphertext, Error, Message, Parameters, PublicKey, SecretKey};
+use giophantus::{Ciphertext, Element, Error, Message, Parameters, PublicKey, SecretKey};
 
 use crate::failure::Failure;
 use crate::files;
@@ -153,6 +153,21 @@ pub fn limits(options: &Options) -> Done {
     files::print(&rows.iter().map(|(name, value)| format!("{name:<20} {value}\n")).collect::<String>())
 }
 
+pub const MULTIPLY_ADD: Takes = Takes { values: &["--set", "--out"], flags: &[], files: 3 };
+
+pub fn multiply_add(options: &Options) -> Done {
+    let set = set(options)?;
+    let paths: Vec<&Path> = options.files.iter().map(|path| path.as_path()).collect();
+    let [a, b, c] = paths[..] else {
+        return Err(Failure::usage("name three ring elements: A, B and C; see --help"));
+    };
+    files::one_standard(&paths)?;
+    let element = |path| given::<Element>(&set, path, set.element_len());
+    let ((a, b), mut c) = both(both(element(a)?, element(b)?), element(c)?)?;
+    c.multiply_add(&a, &b).map_err(|error| Failure::refused("A x B + C", error))?;
+    files::write_octets(out(options), &c.to_octets())
+}
+
 pub const CONVERT: Takes = Takes { values: &["--set", "--kind", "--to", "--out"], flags: &[], files: 1 };
 
 pub fn convert(options: &Options) -> Done {
@@ -295,11 +310,11 @@ fn blank(set: &Parameters) -> Result<Message, Refused> {
 }
 
 /// Both, or the refusal with the lower number.
-fn both<A, B>(a: Result<A, Refused>, b: Result<B, Refused>) -> Result<(A, B), Failure> {
+fn both<A, B>(a: Result<A, Refused>, b: Result<B, Refused>) -> Result<(A, B), Refused> {
     match (a, b) {
         (Ok(a), Ok(b)) => Ok((a, b)),
-        (Err(a), Err(b)) => Err(a.lower(b).into()),
-        (Err(refused), Ok(_)) | (Ok(_), Err(refused)) => Err(refused.into()),
+        (Err(a), Err(b)) => Err(a.lower(b)),
+        (Err(refused), Ok(_)) | (Ok(_), Err(refused)) => Err(refused),
     }
 }
 

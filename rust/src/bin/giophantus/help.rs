@@ -5,13 +5,14 @@ giophantus: the single steps of adding encrypted counts
 
 usage: giophantus COMMAND [OPTION..] [FILE..]
 
-  keygen    make a secret key and its public key from random octets
-  encrypt   encrypt counts, or a blank field, under a public key
-  add       add ciphertexts without decrypting them
-  decrypt   decrypt a ciphertext or a sum
-  is-zero   say whether a secret key is a zero of a public key
-  limits    print the bound, the headroom and the lengths of a set
-  convert   turn octets into coefficient words, or words into octets
+  keygen         make a secret key and its public key from random octets
+  encrypt        encrypt counts, or a blank field, under a public key
+  add            add ciphertexts without decrypting them
+  decrypt        decrypt a ciphertext or a sum
+  is-zero        say whether a secret key is a zero of a public key
+  limits         print the bound, the headroom and the lengths of a set
+  multiply-add   multiply two ring elements and add a third
+  convert        turn octets into coefficient words, or words into octets
 
 `giophantus COMMAND --help` tells more of each. Every command takes the parameter set as six numbers,
 l q n dX dr mlen: --set \"16 2147483647 4 1 1 16\".
@@ -116,6 +117,22 @@ usage: giophantus limits --set SET
 
 The bound B is the most that one fresh ciphertext takes of q; the headroom is the largest s with
 s x B < q, the number of ciphertexts that may be added. Refusals: 11, 1 to 5.
+";
+
+pub const MULTIPLY_ADD: &str = "\
+giophantus multiply-add: multiply two ring elements and add a third
+
+usage: giophantus multiply-add --set SET [--out FILE] A B C
+
+  --set SET    six numbers: l q n dX dr mlen
+  --out FILE   where A x B + C goes; without it to standard output. It may be the file C
+  A, B, C      a ring element each, n x qlen octets; A and B may be one file
+
+The product has t^n = 1, and coefficients are modulo q. It is for following the ring's arithmetic step by step;
+adding counts doesn't need it. `giophantus convert --kind element` makes a ring element's octets from words,
+and words from its octets; the words of a small element may be given too.
+
+Refusals: 11, 1 to 5 for the set; 6 or 8 for a ring element.
 ";
 
 pub const CONVERT: &str = "\

@@ -21,13 +21,14 @@ use options::{Options, Takes};
 /// A command: its name, what it takes, what it does and its help.
 type Command = (&'static str, Takes, fn(&Options) -> Result<(), Failure>, &'static str);
 
-const COMMANDS: [Command; 7] = [
+const COMMANDS: [Command; 8] = [
     ("keygen", c::KEYGEN, c::keygen, help::KEYGEN),
     ("encrypt", c::ENCRYPT, c::encrypt, help::ENCRYPT),
     ("add", c::ADD, c::add, help::ADD),
     ("decrypt", c::DECRYPT, c::decrypt, help::DECRYPT),
     ("is-zero", c::IS_ZERO, c::is_zero, help::IS_ZERO),
     ("limits", c::LIMITS, c::limits, help::LIMITS),
+    ("multiply-add", c::MULTIPLY_ADD, c::multiply_add, help::MULTIPLY_ADD),
     ("convert", c::CONVERT, c::convert, help::CONVERT),
 ];
 

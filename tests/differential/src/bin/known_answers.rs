@@ -14,7 +14,7 @@ use differential::inputs;
 use differential::run::Run;
 use differential::sets::MOST_Q;
 use differential::sums::{
-    all_but_one, meeting, mixed_summands, powers_of_t, totals, Elements, Parts,
+    all_but_one, meeting, mixed_summands, powers_of_t, totals, turned_back, Elements, Parts,
 };
 use reference::monomials::{count, position};
 use reference::octets::{numbers_from_octets, numbers_to_octets, pack};
@@ -226,6 +226,29 @@ impl Answers {
         ];
         let written = [("message", hex(&message))];
         self.record("decrypt", set, &given, number, &written);
+    }
+
+    fn multiply_add(&mut self, set: Set, a: &[u32], b: &[u32], c: &[u32]) {
+        let (number, after) = compare::multiply_add(&mut self.run, set, a, b, c);
+        let given = [
+            ("a", hex_words(a)),
+            ("b", hex_words(b)),
+            ("c", hex_words(c)),
+        ];
+        let written = [("c_after", hex_words(&after))];
+        self.record("multiply_add", set, &given, number, &written);
+    }
+
+    /// Both factors in one buffer.
+    fn square_add(&mut self, set: Set, a: &[u32], c: &[u32]) {
+        let (number, after) = compare::square_add(&mut self.run, set, a, c);
+        let given = [
+            ("a", hex_words(a)),
+            ("b", "same".to_string()),
+            ("c", hex_words(c)),
+        ];
+        let written = [("c_after", hex_words(&after))];
+        self.record("multiply_add", set, &given, number, &written);
     }
 
     fn octets_to_words(&mut self, set: Set, kind: Kind, octets: &[u8], words: usize) {
@@ -806,6 +829,94 @@ fn conversions(directory: &Path, name: &'static str, kinds: &[Kind]) {
     file.write(directory);
 }
 
+/// The least q of all, and n and q on both sides of what the library takes another way: a product from n 81
+/// on, sums of products from q 480191942 on.
+const PRODUCTS: [Set; 6] = [
+    set(2, 36, 2, 1, 1, 2),
+    set(2, 38_724, 80, 1, 1, 80),
+    set(2, 480_191_941, 80, 1, 1, 80),
+    set(2, 480_191_942, 80, 1, 1, 80),
+    set(2, 480_191_941, 81, 1, 1, 81),
+    set(4, MOST_Q, 81, 1, 1, 162),
+];
+
+/// Three ring elements.
+fn three_elements(file: &mut Answers, set: Set) -> [Vec<u32>; 3] {
+    [(); 3].map(|()| words_of(file, Kind::Element, set))
+}
+
+/// Any elements in two buffers and one, a small one with c 0, a product of 1 at each place with q - 1, all
+/// coefficients q - 1, and a product and c with the four sums by turns.
+fn products_of(file: &mut Answers, set: Set) {
+    let n = set.places();
+    let [a, b, c] = three_elements(file, set);
+    file.multiply_add(set, &a, &b, &c);
+    file.square_add(set, &a, &c);
+    let small = words_of(file, Kind::Small, set);
+    file.multiply_add(set, &a, &small, &vec![0; n]);
+    let tops = vec![set.q - 1; n];
+    file.multiply_add(set, &vec![1; n], &powers_of_t(set, &[0]), &tops);
+    file.multiply_add(set, &powers_of_t(set, &[n - 1]), &vec![1; n], &tops);
+    file.square_add(set, &tops, &tops);
+    let [product, c] = mixed_summands(set.q, &totals(set.q), n, &mut file.run.prng);
+    let a = turned_back(&product, n - 1);
+    file.multiply_add(set, &a, &powers_of_t(set, &[n - 1]), &c);
+}
+
+/// Three elements, one of which is wrong: in two buffers, and in one where it isn't b.
+fn wrong_product(file: &mut Answers, set: Set, which: usize, [a, b, c]: &[Vec<u32>; 3]) {
+    file.multiply_add(set, a, b, c);
+    if which != 1 {
+        file.square_add(set, a, c);
+    }
+}
+
+/// A wrong word and a wrong length of each of the three, and both: 6 before 8.
+fn refused_products(file: &mut Answers, set: Set) {
+    let (q, n) = (set.q, set.places());
+    let right = three_elements(file, set);
+    for which in 0..3 {
+        for (place, number) in [(0, q), (n / 2, u32::MAX), (n - 1, q + 1)] {
+            let mut given = right.clone();
+            given[which][place] = number;
+            wrong_product(file, set, which, &given);
+            given[(which + 1) % 3].pop();
+            let [a, b, c] = &given;
+            file.multiply_add(set, a, b, c);
+        }
+        for length in [0, n - 1, n + 1] {
+            let mut given = right.clone();
+            given[which].resize(length, 0);
+            wrong_product(file, set, which, &given);
+        }
+    }
+}
+
+fn products(directory: &Path) {
+    let mut file = Answers::new("multiply_add");
+    // Document 01's case 1.
+    file.multiply_add(A, &[1, 2], &[5, 7], &[0, 0]);
+    for set in SMALL.into_iter().chain(PRODUCTS) {
+        products_of(&mut file, set);
+    }
+    for set in five_refusals() {
+        file.multiply_add(set, &[1, 2], &[5, 7], &[0, 0]);
+        // Before 6, and before 8.
+        file.multiply_add(set, &[1], &[5, 7], &[0, 0]);
+        file.multiply_add(set, &[1, 2], &[5, 7], &[0, u32::MAX]);
+    }
+    for set in [A, PADDED] {
+        refused_products(&mut file, set);
+    }
+    let [n1201, n4096] = LARGE.map(|(_, set)| set);
+    let [a, b, c] = three_elements(&mut file, n1201);
+    file.multiply_add(n1201, &a, &b, &c);
+    let largest = Set { q: MOST_Q, ..n4096 };
+    let [a, _, c] = three_elements(&mut file, largest);
+    file.square_add(largest, &a, &c);
+    file.write(directory);
+}
+
 /// Each call once, refusals that need no long input, and the conversions. Random octets are any,
 /// cut after the last one that is used.
 fn large(directory: &Path, name: &'static str, set: Set) {
@@ -862,6 +973,7 @@ fn main() {
     conversions(directory, "conversions", &others);
     conversions(directory, "secret_key_conversions", &[secret_key]);
     sums(directory);
+    products(directory);
     for (name, set) in LARGE {
         large(directory, name, set);
     }
