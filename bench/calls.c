@@ -1,7 +1,9 @@
 /* The library's calls beside the same calls in C over several rings.  Results are compared before
    anything is timed; entries take turns; each time is the minimum of all rounds.
    With -DLIBRARY_ONLY the library has no peers, addition, whose peers are in copies.c, is among the calls, and
-   multiply_add, which earlier libraries lack, is not.
+   multiply_add, which earlier libraries lack, is not.  Libraries of before document 02's Q-1 count no dropped groups:
+   their keygen and encrypt are given one last argument more than they take.  C itself doesn't define that; where the caller
+   removes the arguments, as on x86-64 and AArch64, they are right all the same and leave the number alone.
    Usage: calls [TIMES.csv] */
 
 #include <stdio.h>
@@ -44,7 +46,7 @@ static uint32_t words[MAX_ELEMENTS * MAX_N]; /* the ciphertext's */
 static struct outputs {
     uint8_t secret_key[MAX_N], public_key[MAX_OCTETS], message[MAX_N / 2], ciphertext[MAX_OCTETS];
     uint32_t element[MAX_N];
-    uint64_t used;
+    uint64_t used, dropped_groups;
 } out;
 static uint32_t work[8 * MAX_N];
 static size_t secret_length, public_length, message_length, ciphertext_length;
@@ -53,9 +55,9 @@ static void run_keygen(size_t i)
 {
     if (entries[i].ring == NULL)
         must(set, giophantus_keygen(SET, random_octets, sizeof random_octets, out.secret_key, secret_length,
-                                    out.public_key, public_length, work, 8 * set->n, &out.used));
+                                    out.public_key, public_length, work, 8 * set->n, &out.used, &out.dropped_groups));
     else
-        out.used = peer_keygen(entries[i].ring, set, random_octets, out.secret_key, out.public_key);
+        out.used = peer_keygen(entries[i].ring, set, random_octets, out.secret_key, out.public_key, &out.dropped_groups);
 }
 
 static void run_is_zero(size_t i)
@@ -73,9 +75,11 @@ static void run_encrypt(size_t i)
 {
     if (entries[i].ring == NULL)
         must(set, giophantus_encrypt(SET, public_key, public_length, message, message_length, random_octets,
-                                     sizeof random_octets, out.ciphertext, ciphertext_length, work, 8 * set->n, &out.used));
+                                     sizeof random_octets, out.ciphertext, ciphertext_length, work, 8 * set->n, &out.used,
+                                     &out.dropped_groups));
     else
-        out.used = peer_encrypt(entries[i].ring, entries[i].shared, set, public_key, message, random_octets, out.ciphertext);
+        out.used = peer_encrypt(entries[i].ring, entries[i].shared, set, public_key, message, random_octets, out.ciphertext,
+                                &out.dropped_groups);
 }
 
 static void run_decrypt(size_t i)

@@ -139,19 +139,22 @@ static void sub_element(const struct set *s, uint32_t *a, const uint32_t *b)
         a[i] = sub_mod(a[i], b[i], s->q);
 }
 
-/* An element of draws below q; answers the octets after them. */
-static const uint8_t *draw_element(const struct set *s, const uint8_t *random, uint32_t *words)
+/* An element of draws below q; answers the octets after them, and adds the number of dropped groups. */
+static const uint8_t *draw_element(const struct set *s, const uint8_t *random, uint32_t *words, uint64_t *dropped_groups)
 {
     uint32_t i, x, length = qlen(s);
     uint32_t mask = UINT32_MAX >> (32 - bit_length(s->q));
+    uint64_t dropped = 0;
 
     for (i = 0; i < s->n; i++) {
-        do {
-            x = get_number(random, length) & mask;
+        while ((x = get_number(random, length) & mask) >= s->q) {
             random += length;
-        } while (x >= s->q);
+            dropped++;
+        }
+        random += length;
         words[i] = x;
     }
+    *dropped_groups += dropped;
     return random;
 }
 
@@ -194,14 +197,15 @@ static void get_secret_key(const struct set *s, const uint8_t *secret_key)
 }
 
 uint64_t peer_keygen(const struct ring *r, const struct set *s, const uint8_t *random, uint8_t *secret_key,
-                     uint8_t *public_key)
+                     uint8_t *public_key, uint64_t *dropped_groups)
 {
     const uint8_t *at = random + 2 * small_octets(s);
     size_t k, last = elements(s->dx) - 1;
 
     get_secret_key(s, random);
+    *dropped_groups = 0;
     for (k = 0; k < last; k++)
-        at = draw_element(s, at, made[k]);
+        at = draw_element(s, at, made[k], dropped_groups);
     memset(made[last], 0, sizeof made[last]);
     value(r, s, s->dx, made, u_x, u_y, w);
     sub_element(s, made[last], w);
@@ -283,7 +287,7 @@ static void multiply_shared(const struct ring *r, const struct set *s)
 }
 
 uint64_t peer_encrypt(const struct ring *r, int shared, const struct set *s, const uint8_t *public_key,
-                      const uint8_t *message, const uint8_t *random, uint8_t *ciphertext)
+                      const uint8_t *message, const uint8_t *random, uint8_t *ciphertext, uint64_t *dropped_groups)
 {
     const uint8_t *at = random;
     size_t k, last = elements(s->dx + s->dr) - 1;
@@ -291,8 +295,9 @@ uint64_t peer_encrypt(const struct ring *r, int shared, const struct set *s, con
 
     for (k = 0; k < elements(s->dx); k++)
         get_element(s, public_key + k * element_octets(s), given[k]);
+    *dropped_groups = 0;
     for (k = 0; k < elements(s->dr); k++)
-        at = draw_element(s, at, drawn[k]);
+        at = draw_element(s, at, drawn[k], dropped_groups);
     if (shared)
         multiply_shared(r, s);
     else

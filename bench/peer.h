@@ -32,13 +32,14 @@ size_t element_octets(const struct set *s);
 uint32_t qlen(const struct set *s);
 uint32_t small_bits(const struct set *s);
 
-/* The ring has been started with the set's n and q.  Keygen and encrypt answer the octets used. */
+/* The ring has been started with the set's n and q.  Keygen and encrypt answer the octets used, and write how many
+   groups were dropped. */
 uint64_t peer_keygen(const struct ring *r, const struct set *s, const uint8_t *random, uint8_t *secret_key,
-                     uint8_t *public_key);
+                     uint8_t *public_key, uint64_t *dropped_groups);
 int peer_is_zero(const struct ring *r, const struct set *s, const uint8_t *secret_key, const uint8_t *public_key);
 /* Shared: 6 products for 9 (21 for 36), for dX = dr. */
 uint64_t peer_encrypt(const struct ring *r, int shared, const struct set *s, const uint8_t *public_key,
-                      const uint8_t *message, const uint8_t *random, uint8_t *ciphertext);
+                      const uint8_t *message, const uint8_t *random, uint8_t *ciphertext, uint64_t *dropped_groups);
 void peer_decrypt(const struct ring *r, const struct set *s, const uint8_t *secret_key, const uint8_t *ciphertext,
                   uint8_t *message);
 

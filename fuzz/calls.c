@@ -5,10 +5,11 @@
  * ends, a sequence that it determines goes on. After the call the rules of giophantus.h are held to, and abort() ends the
  * program where one fails:
  *
- *     the number is 0 to 10, and where the lowest refusal is one of 1 to 8, that one: worked out here a second time
+ *     the number is 0 to 10, and where the lowest refusal is one of 1 to 9, that one: worked out here a second time
  *     inputs are unchanged; after a refusal the outputs are too
  *     work words are untouched after 1 to 6 and zero after every other ending
  *     no octet outside a buffer is read or written
+ *     the dropped groups are those counted here; the octets used are the fixed part and qlen for each of them
  *     what an accepted encryption under made keys gives decrypts to the message, and a sum to the total modulo l
  *     each coefficient of a sum is the sum modulo q of those added
  *     each coefficient of a * b + c is the one worked out here a second time; where n is large, one of them
@@ -448,20 +449,68 @@ static struct buffer *random_octets(size_t needed) {
     return buffer(INPUT, n);
 }
 
+/* What a call takes from its random octets: octets of small elements, draws below q, octets of small elements. */
+struct draws {
+    size_t before, count, after;
+    uint32_t q;
+};
+
+static struct draws keygen_draws(const struct set *s) {
+    size_t small = (s->n * bits(s->l) + 7) / 8;
+    return (struct draws){2 * small, (size_t)(places(s->dx) - 1) * s->n, 0, s->q};
+}
+
+static struct draws encrypt_draws(const struct set *s) {
+    size_t small = (s->n * bits(s->l) + 7) / 8;
+    return (struct draws){0, (size_t)places(s->dr) * s->n, places(s->dx + s->dr) * small, s->q};
+}
+
+/* Whether the random octets are enough, and in *dropped how many groups are dropped. */
+static int enough(const struct draws *d, const struct buffer *random, uint64_t *dropped) {
+    uint32_t qlen = bytes_of(d->q), mask = UINT32_MAX >> __builtin_clz(d->q);
+    size_t at = d->before, kept = 0;
+    for (*dropped = 0; kept < d->count; at += qlen) {
+        uint32_t group = 0;
+        if (at + qlen > random->octets)
+            return 0;
+        for (uint32_t j = 0; j < qlen; j++)
+            group |= (uint32_t)random->at[at + j] << 8 * j;
+        if ((group & mask) < d->q)
+            kept++;
+        else
+            ++*dropped;
+    }
+    return at + d->after <= random->octets;
+}
+
+/* The rules of a call that draws, where the lowest refusal isn't one of 1 to 8. */
+static void judge_draws(uint32_t number, struct draws d, const struct buffer *random, const struct buffer *used,
+                        const struct buffer *dropped_groups) {
+    uint64_t octets, groups, want, fixed = d.before + d.count * bytes_of(d.q) + d.after;
+    int accepted = enough(&d, random, &want);
+    rule(number == (accepted ? 0 : GIOPHANTUS_RANDOM_EXHAUSTED), "random octets: enough or too few");
+    if (!accepted)
+        return;
+    memcpy(&octets, used->at, 8), memcpy(&groups, dropped_groups->at, 8);
+    rule(groups == want, "another number of dropped groups");
+    rule(octets == fixed + bytes_of(d.q) * groups, "the octets used aren't the fixed part and those of dropped groups");
+}
+
 /* Keys, two messages, their ciphertexts, the sum, and back. */
 static void round_trip(const struct set *s, size_t sk, size_t pk, size_t msg, size_t ct) {
     uint32_t b = bits(s->l), small = (s->n * b + 7) / 8, qlen = bytes_of(s->q), number;
     struct buffer *random = buffer(INPUT, 4 * (2 * small + pk) + 64);
     struct buffer *secret = buffer(OUTPUT, sk), *public = buffer(OUTPUT, pk);
     struct buffer *work = buffer(WORK, 32u * s->n), *used = buffer(OUTPUT, 8), *zero = buffer(OUTPUT, 4);
+    struct buffer *dropped = buffer(OUTPUT, 8);
     keep();
-    number = giophantus_keygen(SET(s), OCTETS(random), OCTETS(secret), OCTETS(public), WORDS(work), (void *)used->at);
+    number = giophantus_keygen(SET(s), OCTETS(random), OCTETS(secret), OCTETS(public), WORDS(work), (void *)used->at,
+                               (void *)dropped->at);
     settle(number);
     tell(ROUND, number, s);
-    if (number != 0) {
-        rule(number == GIOPHANTUS_RANDOM_EXHAUSTED, "keygen refuses with an unexpected number");
+    judge_draws(number, keygen_draws(s), random, used, dropped);
+    if (number != 0)
         return;
-    }
     secret->kind = public->kind = INPUT;
     keep();
     number = giophantus_is_zero(SET(s), OCTETS(secret), OCTETS(public), WORDS(work), (void *)zero->at);
@@ -479,15 +528,11 @@ static void round_trip(const struct set *s, size_t sk, size_t pk, size_t msg, si
         cipher[i] = buffer(OUTPUT, ct);
         keep();
         number = giophantus_encrypt(SET(s), OCTETS(public), OCTETS(message[i]), OCTETS(more[i]), OCTETS(cipher[i]),
-                                    WORDS(work), (void *)used->at);
+                                    WORDS(work), (void *)used->at, (void *)dropped->at);
         settle(number);
-        if (number != 0) {
-            rule(number == GIOPHANTUS_RANDOM_EXHAUSTED, "encrypt refuses with an unexpected number");
+        judge_draws(number, encrypt_draws(s), more[i], used, dropped);
+        if (number != 0)
             return;
-        }
-        uint64_t count;
-        memcpy(&count, used->at, 8);
-        rule(count <= more[i]->octets, "more octets used than given");
         cipher[i]->kind = INPUT;
     }
     struct buffer *sum = buffer(OUTPUT, ct), *back = buffer(OUTPUT, msg);
@@ -549,7 +594,7 @@ static void one_call(void) {
         return;
     }
 
-    struct buffer *x, *y, *z, *w, *u, *r;
+    struct buffer *x, *y, *z, *w, *u = NULL, *v = NULL, *r = NULL;
     switch (call) {
     case CHECK:
         number = giophantus_check(SET(&s));
@@ -577,9 +622,10 @@ static void one_call(void) {
     }
     case KEYGEN:
         r = random_octets(refused == 0 ? sk + pk - element : 64);
-        x = sized(OUTPUT, sk, 1), y = sized(OUTPUT, pk, 1), w = sized(WORK, work_words, 4), u = buffer(OUTPUT, 8);
+        x = sized(OUTPUT, sk, 1), y = sized(OUTPUT, pk, 1), w = sized(WORK, work_words, 4);
+        u = buffer(OUTPUT, 8), v = buffer(OUTPUT, 8);
         keep();
-        number = giophantus_keygen(SET(&s), OCTETS(r), OCTETS(x), OCTETS(y), WORDS(w), (void *)u->at);
+        number = giophantus_keygen(SET(&s), OCTETS(r), OCTETS(x), OCTETS(y), WORDS(w), (void *)u->at, (void *)v->at);
         break;
     case IS_ZERO:
         x = sized(INPUT, sk, 1), y = sized(INPUT, pk, 1), w = sized(WORK, work_words, 4), u = buffer(OUTPUT, 4);
@@ -591,11 +637,12 @@ static void one_call(void) {
     case ENCRYPT:
         x = sized(INPUT, pk, 1), y = sized(INPUT, msg, 1);
         r = random_octets(refused == 0 ? places(s.dr) * element + nd * small : 64);
-        z = sized(OUTPUT, ct, 1), w = sized(WORK, work_words, 4), u = buffer(OUTPUT, 8);
+        z = sized(OUTPUT, ct, 1), w = sized(WORK, work_words, 4), u = buffer(OUTPUT, 8), v = buffer(OUTPUT, 8);
         if (refused == 0 && !wrong_length)
             low = fit_both(y, s.mlen, x, qlen, s.q);
         keep();
-        number = giophantus_encrypt(SET(&s), OCTETS(x), OCTETS(y), OCTETS(r), OCTETS(z), WORDS(w), (void *)u->at);
+        number = giophantus_encrypt(SET(&s), OCTETS(x), OCTETS(y), OCTETS(r), OCTETS(z), WORDS(w), (void *)u->at,
+                                    (void *)v->at);
         break;
     case ADD:
         x = sized(INPUT, ct, 1), y = octet() & 1 ? x : sized(INPUT, ct, 1), z = sized(OUTPUT, ct, 1);
@@ -661,7 +708,7 @@ static void one_call(void) {
     if (want != 0)
         rule(number == want, "another refusal");
     else if (call == KEYGEN || call == ENCRYPT)
-        rule(number == 0 || number == GIOPHANTUS_RANDOM_EXHAUSTED, "an unexpected refusal");
+        judge_draws(number, call == KEYGEN ? keygen_draws(&s) : encrypt_draws(&s), r, u, v);
     else if (call == DECRYPT)
         rule(number == 0 || number == GIOPHANTUS_TAIL, "an unexpected refusal");
     else

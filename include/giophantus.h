@@ -27,9 +27,10 @@
  *     work           8 * n words of 32 bits
  *
  * Buffers. A buffer is a pointer and then its length in elements (octets, or words for work and coefficients).
- * Every length must be exact, random octets apart, of which any number may be given. A buffer of length 0 may
- * have any pointer that is not null. A buffer that a call writes overlaps no other argument of that call; two
- * buffers that are only read may be one. Words are aligned as uint32_t is.
+ * Every length must be exact, random octets apart, of which any number may be given. No pointer may be null, those
+ * to numbers included; a buffer of length 0 may have any other pointer. A buffer that a call writes overlaps no
+ * other argument of that call, and the same holds of a number that a call writes behind a pointer; two buffers that
+ * are only read may be one. Words are aligned as uint32_t is.
  *
  * Results. A call gives 0, or the number of the first refusal that applies, by rising number. On a refusal every
  * output, the numbers behind pointers included, holds its old contents.
@@ -108,14 +109,18 @@ uint32_t giophantus_lengths(uint32_t l, uint32_t q, uint32_t n, uint32_t dx, uin
  * from the front and says in *used how many. It takes ceil(n * b / 8) octets for each of u_x and u_y, then qlen
  * octets for each coefficient of the public key but those of the constant; a group of qlen octets whose number
  * (modulo 2 to the bit length of q) is q or more is dropped and the next is taken, so the number of octets needed
- * is not known beforehand. The secret key that it makes is always a zero of the public key. Octets that were used
- * once must not be used again. Refusals, in order: 1 to 5; 6 where secret_key, public_key or work isn't of its
- * exact length; 9 where the octets end too early: call again with the same octets and more behind them.
+ * is not known beforehand. It says in *dropped_groups how many groups were dropped, which is no fault, and so
+ *
+ *     used = 2 * ceil(n * b / 8) + qlen * (N(dx) - 1) * n + qlen * dropped_groups
+ *
+ * The secret key that it makes is always a zero of the public key. Octets that were used once must not be used
+ * again. Refusals, in order: 1 to 5; 6 where secret_key, public_key or work isn't of its exact length; 9 where the
+ * octets end too early: call again with the same octets and more behind them.
  */
 uint32_t giophantus_keygen(uint32_t l, uint32_t q, uint32_t n, uint32_t dx, uint32_t dr, uint32_t mlen,
                            const uint8_t *random, size_t random_len, uint8_t *secret_key, size_t secret_key_len,
                            uint8_t *public_key, size_t public_key_len, uint32_t *work, size_t work_len,
-                           uint64_t *used);
+                           uint64_t *used, uint64_t *dropped_groups);
 
 /*
  * giophantus_is_zero: does this secret key belong to this public key? *zero is 1 where the value of the public
@@ -131,17 +136,21 @@ uint32_t giophantus_is_zero(uint32_t l, uint32_t q, uint32_t n, uint32_t dx, uin
 /*
  * giophantus_encrypt: encrypt a message of mlen / b counts under a public key. It takes random octets as
  * giophantus_keygen does (N(dr) * n draws below q, then N(D) small elements of ceil(n * b / 8) octets each, whose
- * unused bits are ignored) and says in *used how many; octets that were used once must not be used again. A blank
- * field is encrypted under the same set with mlen 0, with message_len 0 and a message pointer that is not null;
- * it must not be encrypted as zeros. Refusals, in order: 1 to 5; 6 where public_key, message, ciphertext or work
- * isn't of its exact length; 7 where the message has a non-zero bit from bit mlen on; 8 where a coefficient of
- * the public key is q or more; 9 where the random octets end too early: call again with the same octets and more
- * behind them.
+ * unused bits are ignored) and says in *used how many, and in *dropped_groups how many groups were dropped:
+ *
+ *     used = qlen * N(dr) * n + N(D) * ceil(n * b / 8) + qlen * dropped_groups
+ *
+ * Octets that were used once must not be used again. A blank field is encrypted under the same set with mlen 0,
+ * with message_len 0 and a message pointer that is not null; it must not be encrypted as zeros. Refusals, in order:
+ * 1 to 5; 6 where public_key, message, ciphertext or work isn't of its exact length; 7 where the message has a
+ * non-zero bit from bit mlen on; 8 where a coefficient of the public key is q or more; 9 where the random octets
+ * end too early: call again with the same octets and more behind them.
  */
 uint32_t giophantus_encrypt(uint32_t l, uint32_t q, uint32_t n, uint32_t dx, uint32_t dr, uint32_t mlen,
                             const uint8_t *public_key, size_t public_key_len, const uint8_t *message,
                             size_t message_len, const uint8_t *random, size_t random_len, uint8_t *ciphertext,
-                            size_t ciphertext_len, uint32_t *work, size_t work_len, uint64_t *used);
+                            size_t ciphertext_len, uint32_t *work, size_t work_len, uint64_t *used,
+                            uint64_t *dropped_groups);
 
 /*
  * giophantus_add: add two ciphertexts of one set and one public key, coefficient by coefficient modulo q, without

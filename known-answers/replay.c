@@ -12,7 +12,7 @@
 /* Octets on both sides of every buffer that must not change. */
 #define GUARD 64
 #define MAX_FIELDS 32
-#define MAX_ARGUMENTS 6
+#define MAX_ARGUMENTS 7
 
 enum kind { INPUT, OUTPUT, IN_PLACE, WORK, NUMBER };
 
@@ -278,9 +278,9 @@ static void check_buffer(const struct argument *a, const struct buffer *b, uint3
 CALL(check, (SET))
 CALL(limits, (SET, CELLS(0), CELLS(1)))
 CALL(lengths, (SET, CELLS(0), CELLS(1), CELLS(2), CELLS(3), CELLS(4)))
-CALL(keygen, (SET, BUFFER(0), BUFFER(1), BUFFER(2), BUFFER(3), CELLS(4)))
+CALL(keygen, (SET, BUFFER(0), BUFFER(1), BUFFER(2), BUFFER(3), CELLS(4), CELLS(5)))
 CALL(is_zero, (SET, BUFFER(0), BUFFER(1), BUFFER(2), CELLS(3)))
-CALL(encrypt, (SET, BUFFER(0), BUFFER(1), BUFFER(2), BUFFER(3), BUFFER(4), CELLS(5)))
+CALL(encrypt, (SET, BUFFER(0), BUFFER(1), BUFFER(2), BUFFER(3), BUFFER(4), CELLS(5), CELLS(6)))
 CALL(add, (SET, BUFFER(0), BUFFER(1), BUFFER(2)))
 CALL(decrypt, (SET, BUFFER(0), BUFFER(1), BUFFER(2), BUFFER(3)))
 CALL(multiply_add, (SET, BUFFER(0), BUFFER(1), BUFFER(2)))
@@ -318,7 +318,8 @@ static const struct call {
       {"secret_key", OUTPUT, 1},
       {"public_key", OUTPUT, 1},
       {"work", WORK, 4},
-      {"used", NUMBER, 8}}},
+      {"used", NUMBER, 8},
+      {"dropped_groups", NUMBER, 8}}},
     {"is_zero",
      call_is_zero,
      {{"secret_key", INPUT, 1}, {"public_key", INPUT, 1}, {"work", WORK, 4}, {"zero", NUMBER, 4}}},
@@ -329,7 +330,8 @@ static const struct call {
       {"random", INPUT, 1},
       {"ciphertext", OUTPUT, 1},
       {"work", WORK, 4},
-      {"used", NUMBER, 8}}},
+      {"used", NUMBER, 8},
+      {"dropped_groups", NUMBER, 8}}},
     {"add", call_add, {{"a", INPUT, 1}, {"b", INPUT, 1}, {"sum", OUTPUT, 1}}},
     {"decrypt",
      call_decrypt,

@@ -74,7 +74,8 @@ static void print_counts(const char *whose, const uint8_t *message, size_t messa
 int main(void) {
     static const uint32_t counts[2][COUNTS] = {{3, 0, 7, 1}, {2, 5, 4, 0}};
     uint32_t bound = 0, headroom = 0, zero = 0;
-    uint64_t secret_len = 0, public_len = 0, message_len = 0, ciphertext_len = 0, work_len = 0, used = 0;
+    uint64_t secret_len = 0, public_len = 0, message_len = 0, ciphertext_len = 0, work_len = 0;
+    uint64_t used = 0, dropped = 0;
     uint8_t random[RANDOM_OCTETS];
 
     accepted("limits", giophantus_limits(SET, &bound, &headroom));
@@ -90,16 +91,18 @@ int main(void) {
 
     fixed_octets(1, random);
     accepted("keygen", giophantus_keygen(SET, random, sizeof random, secret_key, secret_len, public_key, public_len,
-                                         work, work_len, &used));
+                                         work, work_len, &used, &dropped));
     accepted("is_zero", giophantus_is_zero(SET, secret_key, secret_len, public_key, public_len, work, work_len, &zero));
-    printf("keys from %" PRIu64 " octets, the secret key is a zero of the public key: %s\n", used, zero ? "yes" : "no");
+    printf("keys from %" PRIu64 " octets, groups dropped: %" PRIu64 "\n", used, dropped);
+    printf("the secret key is a zero of the public key: %s\n", zero ? "yes" : "no");
 
     for (uint32_t i = 0; i < 2; i++) {
         message_from_counts(counts[i], message, message_len);
         print_counts(i == 0 ? "laboratory 1" : "laboratory 2", message, message_len);
         fixed_octets(2 + i, random);
         accepted("encrypt", giophantus_encrypt(SET, public_key, public_len, message, message_len, random,
-                                               sizeof random, ciphertext[i], ciphertext_len, work, work_len, &used));
+                                               sizeof random, ciphertext[i], ciphertext_len, work, work_len, &used,
+                                               &dropped));
     }
 
     accepted("add", giophantus_add(SET, ciphertext[0], ciphertext_len, ciphertext[1], ciphertext_len, total,

@@ -64,14 +64,15 @@ static void zero_test(const uint32_t *secret_key, const uint32_t *public_key, co
 
 int main(void) {
     /* Octets that are not random, so that the example prints the same: they give u_x = 1 + 2t and u_y = t, and 5 + 7t
-       and 100 + t for x and y. */
-    static const uint8_t random[] = {0x09, 0x04, 5, 0, 7, 0, 100, 0, 1, 0};
+       and 100 + t for x and y. The group 0xB3 0x05 is 1459, which is not below q: it is dropped. */
+    static const uint8_t random[] = {0x09, 0x04, 5, 0, 0xB3, 0x05, 7, 0, 100, 0, 1, 0};
     uint8_t secret_octets[SECRET_KEY_OCTETS], public_octets[PUBLIC_KEY_OCTETS];
     uint32_t secret_key[SECRET_KEY_WORDS], public_key[PUBLIC_KEY_WORDS], work[WORK_WORDS];
-    uint64_t used = 0;
+    uint64_t used = 0, dropped = 0;
 
     accepted("keygen", giophantus_keygen(SET, random, sizeof random, secret_octets, sizeof secret_octets,
-                                         public_octets, sizeof public_octets, work, WORK_WORDS, &used));
+                                         public_octets, sizeof public_octets, work, WORK_WORDS, &used, &dropped));
+    printf("keys from %" PRIu64 " octets, groups dropped: %" PRIu64 "\n", used, dropped);
     accepted("secret_key_from_octets", giophantus_secret_key_from_octets(SET, secret_octets, sizeof secret_octets,
                                                                          secret_key, SECRET_KEY_WORDS));
     accepted("public_key_from_octets", giophantus_public_key_from_octets(SET, public_octets, sizeof public_octets,

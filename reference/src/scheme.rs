@@ -8,7 +8,8 @@ use crate::ring::{self, Element, Polynomial};
 use crate::set::{check_lengths, Set};
 
 /// 01: key making. Draws u_x, u_y and every key element but the constant, which is minus the sum
-/// of a_ij * u_x^i * u_y^j over the others.
+/// of a_ij * u_x^i * u_y^j over the others. Reports the octets used and, by 02's Q-1, the groups
+/// dropped.
 pub fn keygen(
     set: Set,
     random: &[u8],
@@ -16,6 +17,7 @@ pub fn keygen(
     public_key: &mut [u8],
     work: &mut [u32],
     used: &mut u64,
+    dropped_groups: &mut u64,
 ) -> u32 {
     let number = check_lengths(
         set,
@@ -40,6 +42,7 @@ pub fn keygen(
     secret_key[small_octets..].copy_from_slice(&octets::pack(set.b(), &u_y, small_octets));
     public_key.copy_from_slice(&octets::numbers_to_octets(set.qlen(), &key.to_words()));
     *used = draws.used();
+    *dropped_groups = draws.dropped_groups();
     refusal::NONE
 }
 
@@ -96,7 +99,9 @@ pub fn is_zero(
     refusal::NONE
 }
 
-/// 01: sealing. c = m + X * r + l * e over R_q.
+/// 01: sealing. c = m + X * r + l * e over R_q. Reports the octets used and, by 02's Q-1, the
+/// groups dropped.
+#[allow(clippy::too_many_arguments)] // Those of the C interface.
 pub fn encrypt(
     set: Set,
     public_key: &[u8],
@@ -105,6 +110,7 @@ pub fn encrypt(
     ciphertext: &mut [u8],
     work: &mut [u32],
     used: &mut u64,
+    dropped_groups: &mut u64,
 ) -> u32 {
     let number = check_lengths(
         set,
@@ -127,20 +133,24 @@ pub fn encrypt(
         return refusal::COEFFICIENT;
     };
     let mut draws = Draws::new(random);
-    let Some((r, e)) = draw_r_and_e(set, &mut draws) else {
+    let Some(c) = draw_ciphertext(set, &m, &key, &mut draws) else {
         return refusal::RANDOM_EXHAUSTED;
     };
+    ciphertext.copy_from_slice(&octets::numbers_to_octets(set.qlen(), &c.to_words()));
+    *used = draws.used();
+    *dropped_groups = draws.dropped_groups();
+    refusal::NONE
+}
 
-    let mut c = ring::polynomial_product(set.q, set.places(), &key, &r);
+fn draw_ciphertext(set: Set, m: &[u32], key: &Polynomial, draws: &mut Draws) -> Option<Polynomial> {
+    let (r, e) = draw_r_and_e(set, draws)?;
+    let mut c = ring::polynomial_product(set.q, set.places(), key, &r);
     for (c_ij, e_ij) in c.elements.iter_mut().zip(&e.elements) {
         *c_ij = ring::sum(set.q, c_ij, &ring::multiple(set.q, set.l, e_ij));
     }
     let constant = monomials::position(set.d(), 0, 0);
-    c.elements[constant] = ring::sum(set.q, &c.elements[constant], &m);
-
-    ciphertext.copy_from_slice(&octets::numbers_to_octets(set.qlen(), &c.to_words()));
-    *used = draws.used();
-    refusal::NONE
+    c.elements[constant] = ring::sum(set.q, &c.elements[constant], m);
+    Some(c)
 }
 
 fn draw_r_and_e(set: Set, draws: &mut Draws) -> Option<(Polynomial, Polynomial)> {

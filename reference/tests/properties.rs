@@ -41,42 +41,43 @@ fn random_for(set: Set, prng: &mut Prng) -> Vec<u8> {
     prng.octets(16 * set.ciphertext_octets() + 4096)
 }
 
+/// Makes keys with work words of its own: the number. `report` is the octets used with the groups
+/// dropped.
+fn keygen_into(set: Set, random: &[u8], keys: &mut Keys, report: &mut [u64; 2]) -> u32 {
+    let mut work = vec![7; set.work_words()];
+    let [used, dropped] = report;
+    let number = keygen(
+        set,
+        random,
+        &mut keys.secret_key,
+        &mut keys.public_key,
+        &mut work,
+        used,
+        dropped,
+    );
+    assert!(work.iter().all(|&x| x == 0));
+    number
+}
+
 fn make_keys(set: Set, prng: &mut Prng) -> Keys {
     let random = random_for(set, prng);
     let mut keys = Keys {
         secret_key: vec![0xAA; set.secret_key_octets()],
         public_key: vec![0xAA; set.public_key_octets()],
     };
-    let mut work = vec![7; set.work_words()];
-    let mut used = 0;
-    let number = keygen(
-        set,
-        &random,
-        &mut keys.secret_key,
-        &mut keys.public_key,
-        &mut work,
-        &mut used,
-    );
-    assert_eq!(number, 0);
-    assert!(work.iter().all(|&x| x == 0));
+    let mut report = [0, 0];
+    assert_eq!(keygen_into(set, &random, &mut keys, &mut report), 0);
 
-    // Exactly `used` octets are enough, one fewer is not.
+    // Exactly the octets used are enough, one fewer is not.
+    let used = report[0] as usize;
     let mut again = Keys {
         secret_key: vec![0; set.secret_key_octets()],
         public_key: vec![0; set.public_key_octets()],
     };
-    for (count, wanted) in [(used as usize, 0), (used as usize - 1, 9)] {
-        let mut again_used = 5;
-        let number = keygen(
-            set,
-            &random[..count],
-            &mut again.secret_key,
-            &mut again.public_key,
-            &mut work,
-            &mut again_used,
-        );
-        assert_eq!(number, wanted);
-        assert_eq!(again_used, if wanted == 0 { used } else { 5 });
+    for (count, number, wanted) in [(used, 0, report), (used - 1, 9, [99, 77])] {
+        let mut report = [99, 77];
+        let given = keygen_into(set, &random[..count], &mut again, &mut report);
+        assert_eq!((given, report), (number, wanted));
         assert_eq!(again.secret_key, keys.secret_key);
         assert_eq!(again.public_key, keys.public_key);
     }
@@ -103,6 +104,7 @@ fn encrypt_ok(set: Set, keys: &Keys, message: &[u8], random: &[u8]) -> Vec<u8> {
         &mut ciphertext,
         &mut work,
         &mut used,
+        &mut 0,
     );
     assert_eq!(number, 0);
     assert!(used as usize <= random.len());
@@ -276,6 +278,7 @@ fn ledger_of_sums() {
                         &mut c,
                         &mut work,
                         &mut 0,
+                        &mut 0,
                     );
                     assert_eq!(number, 9);
                 }
@@ -388,8 +391,8 @@ fn refusal_order_and_work_words() {
 
             let (mut sk, mut pk, mut m, mut c) = (octets(0), octets(1), octets(2), octets(3));
             let mut w = words.clone();
-            let (mut used, mut zero) = (99, 99);
-            let number = keygen(set, &[], &mut sk, &mut pk, &mut w, &mut used);
+            let (mut used, mut dropped, mut zero) = (99, 77, 55);
+            let number = keygen(set, &[], &mut sk, &mut pk, &mut w, &mut used, &mut dropped);
             let wanted = if [0, 1, 4].contains(&at) { 6 } else { 9 };
             assert_eq!(number, wanted);
             assert_eq!(w == words, wanted == 6);
@@ -401,7 +404,7 @@ fn refusal_order_and_work_words() {
             assert_eq!(w == words, wanted == 6);
 
             let mut w = words.clone();
-            let number = encrypt(set, &pk, &m, &[], &mut c, &mut w, &mut used);
+            let number = encrypt(set, &pk, &m, &[], &mut c, &mut w, &mut used, &mut dropped);
             let wanted = if at != 0 { 6 } else { 7 };
             assert_eq!(number, wanted);
             assert_eq!(w == words, wanted == 6);
@@ -412,7 +415,7 @@ fn refusal_order_and_work_words() {
             assert_eq!(number, wanted);
             assert_eq!(w == words, wanted == 6);
 
-            assert_eq!((used, zero), (99, 99));
+            assert_eq!((used, dropped, zero), (99, 77, 55));
             for (i, buffer) in [&sk, &pk, &m, &c].into_iter().enumerate() {
                 assert_eq!(*buffer, octets(i));
             }
@@ -422,7 +425,16 @@ fn refusal_order_and_work_words() {
     // 8 before 9.
     let mut c = vec![0xEE; 36];
     let mut w = vec![7; 24];
-    let number = encrypt(set, &[0xEE; 18], &[0x0E], &[], &mut c, &mut w, &mut 0);
+    let number = encrypt(
+        set,
+        &[0xEE; 18],
+        &[0x0E],
+        &[],
+        &mut c,
+        &mut w,
+        &mut 0,
+        &mut 0,
+    );
     assert_eq!((number, w), (8, vec![0; 24]));
     assert_eq!(c, [0xEE; 36]);
     // 8 before 10; u_y's padding alone is 7.

@@ -1,5 +1,5 @@
-//! The worked list of document 01, cases 1 to 11, and sums of two coefficients at the limits of their
-//! reduction.
+//! The worked list of document 01, cases 1 to 11, with the dropped groups of document 02's Q-1, and
+//! sums of two coefficients at the limits of their reduction.
 
 use reference::octets;
 use reference::ring::{self, Polynomial};
@@ -35,20 +35,49 @@ fn ciphertext() -> Vec<u8> {
     hex("09 00 07 00 64 00 01 00 00 00 08 00 B2 05 4F 05 01 00 64 00 44 05 AA 05")
 }
 
-/// Encrypts into a marked buffer: the number, the ciphertext, the work words and the count used.
+/// Octets used and groups dropped, as they are before a call.
+const OLD: [u64; 2] = [99, 77];
+
+/// Makes keys into marked buffers: the number, both keys, the work words, and the octets used with
+/// the groups dropped.
+fn try_keygen(random: &[u8]) -> (u32, Vec<u8>, Vec<u8>, Vec<u32>, [u64; 2]) {
+    let (mut sk, mut pk) = (vec![0xAA; 2], vec![0xBB; 12]);
+    let mut work = vec![7; 16];
+    let [mut used, mut dropped] = OLD;
+    let number = keygen(
+        A,
+        random,
+        &mut sk,
+        &mut pk,
+        &mut work,
+        &mut used,
+        &mut dropped,
+    );
+    (number, sk, pk, work, [used, dropped])
+}
+
+/// Encrypts into a marked buffer: the number, the ciphertext, the work words, and the octets used
+/// with the groups dropped.
 fn try_encrypt(
     set: Set,
     public_key: &[u8],
     message: &[u8],
     random: &[u8],
-) -> (u32, Vec<u8>, Vec<u32>, u64) {
+) -> (u32, Vec<u8>, Vec<u32>, [u64; 2]) {
     let mut c = vec![0xAA; 24];
     let mut work = vec![7; 16];
-    let mut used = 99;
+    let [mut used, mut dropped] = OLD;
     let number = encrypt(
-        set, public_key, message, random, &mut c, &mut work, &mut used,
+        set,
+        public_key,
+        message,
+        random,
+        &mut c,
+        &mut work,
+        &mut used,
+        &mut dropped,
     );
-    (number, c, work, used)
+    (number, c, work, [used, dropped])
 }
 
 #[test]
@@ -58,13 +87,14 @@ fn case_1() {
 
 #[test]
 fn case_2() {
-    let (mut sk, mut pk, mut work, mut used) = ([0xAA; 2], [0xAA; 12], [7; 16], 99);
-    let number = keygen(A, &key_random(), &mut sk, &mut pk, &mut work, &mut used);
-    assert_eq!(number, 0);
-    assert_eq!(sk[..], secret_key());
-    assert_eq!(pk[..], public_key());
-    assert_eq!(work, [0; 16]);
-    assert_eq!(used, 10);
+    let got = try_keygen(&key_random());
+    let (sk, pk) = (secret_key(), public_key());
+    assert_eq!(got, (0, sk.clone(), pk.clone(), vec![0; 16], [10, 0]));
+
+    // 1459 after the secret is dropped: the same keys.
+    let random = hex("09 04 B3 05 05 00 07 00 64 00 01 00");
+    let got = try_keygen(&random);
+    assert_eq!(got, (0, sk.clone(), pk.clone(), vec![0; 16], [12, 1]));
 
     let mut zero = 99;
     let mut work = [7; 16];
@@ -77,11 +107,11 @@ fn case_2() {
 #[test]
 fn case_3() {
     let got = try_encrypt(A, &public_key(), &[0x0E], &encrypt_random());
-    assert_eq!(got, (0, ciphertext(), vec![0; 16], 18));
+    assert_eq!(got, (0, ciphertext(), vec![0; 16], [18, 0]));
     // Octets after the last draw aren't examined.
     let longer = [encrypt_random(), vec![0xFF; 5]].concat();
     let got = try_encrypt(A, &public_key(), &[0x0E], &longer);
-    assert_eq!(got, (0, ciphertext(), vec![0; 16], 18));
+    assert_eq!(got, (0, ciphertext(), vec![0; 16], [18, 0]));
 }
 
 #[test]
@@ -105,24 +135,51 @@ fn case_5() {
     let mut random = encrypt_random();
     random[1] = 0x08;
     let got = try_encrypt(A, &public_key(), &[0x0E], &random);
-    assert_eq!(got, (0, ciphertext(), vec![0; 16], 18));
+    assert_eq!(got, (0, ciphertext(), vec![0; 16], [18, 0]));
 
     let random = [hex("B3 05"), encrypt_random()].concat();
     let got = try_encrypt(A, &public_key(), &[0x0E], &random);
-    assert_eq!(got, (0, ciphertext(), vec![0; 16], 20));
+    assert_eq!(got, (0, ciphertext(), vec![0; 16], [20, 1]));
+
+    // Again before the third pair.
+    let random = hex("B3 05 01 00 00 00 B3 05 00 00 00 00 00 00 01 00 01 00 08 0F 00 09");
+    let got = try_encrypt(A, &public_key(), &[0x0E], &random);
+    assert_eq!(got, (0, ciphertext(), vec![0; 16], [22, 2]));
 }
 
 #[test]
 fn case_6() {
     let random = encrypt_random();
     let got = try_encrypt(A, &public_key(), &[0x0E], &random[..17]);
-    assert_eq!(got, (9, vec![0xAA; 24], vec![0; 16], 99));
+    assert_eq!(got, (9, vec![0xAA; 24], vec![0; 16], OLD));
 
-    let (mut sk, mut pk, mut work, mut used) = ([0xAA; 2], [0xBB; 12], [7; 16], 99);
-    let random = &key_random()[..9];
-    let number = keygen(A, random, &mut sk, &mut pk, &mut work, &mut used);
-    assert_eq!(number, 9);
-    assert_eq!((sk, pk, work, used), ([0xAA; 2], [0xBB; 12], [0; 16], 99));
+    let got = try_keygen(&key_random()[..9]);
+    assert_eq!(got, (9, vec![0xAA; 2], vec![0xBB; 12], vec![0; 16], OLD));
+}
+
+/// Case 6 with dropped groups: the numbers hold their old values, also where the octets end right
+/// after a dropped group.
+#[test]
+fn case_6_after_dropped_groups() {
+    for text in [
+        "B3 05",
+        "B3 05 B3 05",
+        "B3 05 01",
+        "01 00 00 00 00 00 00 00 00 00 B3 05",
+        "B3 05 01 00 00 00 00 00 00 00 00 00 01 00 01 00 08 0F 00",
+    ] {
+        let got = try_encrypt(A, &public_key(), &[0x0E], &hex(text));
+        assert_eq!(got, (9, vec![0xAA; 24], vec![0; 16], OLD), "{text}");
+    }
+    for text in [
+        "09 04 B3 05",
+        "09 04 B3 05 05 00 07 00 64 00 01",
+        "09 04 05 00 07 00 64 00 B3 05",
+    ] {
+        let got = try_keygen(&hex(text));
+        let wanted = (9, vec![0xAA; 2], vec![0xBB; 12], vec![0; 16], OLD);
+        assert_eq!(got, wanted, "{text}");
+    }
 }
 
 #[test]
@@ -131,10 +188,10 @@ fn case_7() {
         for place in 0..6 {
             let mut key = public_key();
             key[2 * place..2 * place + 2].copy_from_slice(&coefficient.to_le_bytes());
-            let (number, c, work, used) = try_encrypt(A, &key, &[0x0E], &encrypt_random());
+            let (number, c, work, report) = try_encrypt(A, &key, &[0x0E], &encrypt_random());
             assert_eq!((number, work), (wanted, vec![0; 16]));
             if wanted == 8 {
-                assert_eq!((c, used), (vec![0xAA; 24], 99));
+                assert_eq!((c, report), (vec![0xAA; 24], OLD));
             }
 
             let (mut work, mut zero) = ([7; 16], 99);
@@ -153,14 +210,14 @@ fn case_7() {
     }
 
     let got = try_encrypt(A, &public_key(), &[0x1E], &encrypt_random());
-    assert_eq!(got, (7, vec![0xAA; 24], vec![0; 16], 99));
+    assert_eq!(got, (7, vec![0xAA; 24], vec![0; 16], OLD));
 }
 
 #[test]
 fn case_8() {
     let random = [vec![0; 12], vec![0x0F; 6]].concat();
-    let (number, c, _, used) = try_encrypt(A, &[0; 12], &[0x0F], &random);
-    assert_eq!((number, used), (0, 18));
+    let (number, c, _, report) = try_encrypt(A, &[0; 12], &[0x0F], &random);
+    assert_eq!((number, report), (0, [18, 0]));
 
     let mut zero = 99;
     let number = is_zero(A, &[0x0F, 0x0F], &[0; 12], &mut [7; 16], &mut zero);
@@ -188,8 +245,8 @@ fn case_8() {
 #[test]
 fn case_9() {
     let empty = Set { mlen: 0, ..A };
-    let (number, c, _, used) = try_encrypt(empty, &public_key(), &[], &encrypt_random());
-    assert_eq!((number, used), (0, 18));
+    let (number, c, _, report) = try_encrypt(empty, &public_key(), &[], &encrypt_random());
+    assert_eq!((number, report), (0, [18, 0]));
     let mut work = [7; 16];
     let number = decrypt(empty, &secret_key(), &c, &mut [], &mut work);
     assert_eq!((number, work), (0, [0; 16]));

@@ -7,13 +7,14 @@ use crate::error::Error;
 use crate::ffi;
 use crate::octets::{judged_octets, judged_octets_equal, judged_octets_shown, judged_octets_words};
 use crate::parameters::{AnySet, FixedSet, Parameters};
+use crate::random::RandomUse;
 
 /// What encryption makes.
 pub struct Encrypted<S = AnySet> {
     /// The ciphertext.
     pub ciphertext: Ciphertext<S>,
-    /// How many random octets were used, from the front.
-    pub used: usize,
+    /// How many random octets were used, from the front, and how many groups among them were dropped.
+    pub used: RandomUse,
 }
 
 // Written out, since a derived one would ask the same of the tag.

@@ -11,6 +11,7 @@
 //!   meet.
 
 use crate::error::Error;
+use crate::random::RandomUse;
 
 /// ℓ, q, n, dX, dr, mlen.
 pub(crate) type Numbers = [u32; 6];
@@ -38,7 +39,8 @@ extern "C" {
     fn giophantus_keygen(
         l: u32, q: u32, n: u32, dx: u32, dr: u32, mlen: u32,
         random: *const u8, random_len: usize, secret_key: *mut u8, secret_key_len: usize,
-        public_key: *mut u8, public_key_len: usize, work: *mut u32, work_len: usize, used: *mut u64,
+        public_key: *mut u8, public_key_len: usize, work: *mut u32, work_len: usize,
+        used: *mut u64, dropped_groups: *mut u64,
     ) -> u32;
     fn giophantus_is_zero(
         l: u32, q: u32, n: u32, dx: u32, dr: u32, mlen: u32,
@@ -49,7 +51,7 @@ extern "C" {
         l: u32, q: u32, n: u32, dx: u32, dr: u32, mlen: u32,
         public_key: *const u8, public_key_len: usize, message: *const u8, message_len: usize,
         random: *const u8, random_len: usize, ciphertext: *mut u8, ciphertext_len: usize,
-        work: *mut u32, work_len: usize, used: *mut u64,
+        work: *mut u32, work_len: usize, used: *mut u64, dropped_groups: *mut u64,
     ) -> u32;
     fn giophantus_add(
         l: u32, q: u32, n: u32, dx: u32, dr: u32, mlen: u32,
@@ -107,16 +109,16 @@ pub(crate) fn lengths([l, q, n, dx, dr, mlen]: Numbers) -> Result<Lengths, Error
     })
 }
 
-/// Keys from random octets; answers the octets used.
+/// Keys from random octets; answers what was used of them.
 pub(crate) fn keygen(
     [l, q, n, dx, dr, mlen]: Numbers,
     random: &[u8],
     secret_key: &mut [u8],
     public_key: &mut [u8],
     work: &mut [u32],
-) -> Result<u64, Error> {
-    let mut used = 0;
-    // SAFETY: POINTERS; NO OVERLAP: secret_key, public_key and work are `&mut`, used is a local; NOTHING KEPT.
+) -> Result<RandomUse, Error> {
+    let (mut used, mut dropped_groups) = (0, 0);
+    // SAFETY: POINTERS; NO OVERLAP: secret_key, public_key and work are `&mut`, the numbers are locals; NOTHING KEPT.
     accepted(unsafe {
         giophantus_keygen(
             l,
@@ -134,9 +136,10 @@ pub(crate) fn keygen(
             work.as_mut_ptr(),
             work.len(),
             &mut used,
+            &mut dropped_groups,
         )
     })?;
-    Ok(used)
+    Ok(RandomUse { octets: used as usize, dropped_groups: dropped_groups as usize })
 }
 
 /// The zero test.
@@ -168,7 +171,7 @@ pub(crate) fn is_zero(
     Ok(zero == 1)
 }
 
-/// A ciphertext from a message and random octets; answers the octets used.
+/// A ciphertext from a message and random octets; answers what was used of them.
 pub(crate) fn encrypt(
     [l, q, n, dx, dr, mlen]: Numbers,
     public_key: &[u8],
@@ -176,9 +179,9 @@ pub(crate) fn encrypt(
     random: &[u8],
     ciphertext: &mut [u8],
     work: &mut [u32],
-) -> Result<u64, Error> {
-    let mut used = 0;
-    // SAFETY: POINTERS; NO OVERLAP: ciphertext and work are `&mut`, used is a local; NOTHING KEPT.
+) -> Result<RandomUse, Error> {
+    let (mut used, mut dropped_groups) = (0, 0);
+    // SAFETY: POINTERS; NO OVERLAP: ciphertext and work are `&mut`, the numbers are locals; NOTHING KEPT.
     accepted(unsafe {
         giophantus_encrypt(
             l,
@@ -198,9 +201,10 @@ pub(crate) fn encrypt(
             work.as_mut_ptr(),
             work.len(),
             &mut used,
+            &mut dropped_groups,
         )
     })?;
-    Ok(used)
+    Ok(RandomUse { octets: used as usize, dropped_groups: dropped_groups as usize })
 }
 
 /// The sum of two ciphertexts, which may be one.

@@ -11,7 +11,7 @@ use crate::octets::{
     judged_octets, judged_octets_equal, judged_octets_hidden, judged_octets_shown, judged_octets_words,
 };
 use crate::parameters::{AnySet, FixedSet, Parameters};
-use crate::random;
+use crate::random::{self, RandomUse};
 use crate::workspace;
 
 /// What key generation makes.
@@ -20,8 +20,8 @@ pub struct Keys<S = AnySet> {
     pub secret_key: SecretKey<S>,
     /// The public key.
     pub public_key: PublicKey<S>,
-    /// How many random octets were used, from the front.
-    pub used: usize,
+    /// How many random octets were used, from the front, and how many groups among them were dropped.
+    pub used: RandomUse,
 }
 
 // Written out, since a derived one would ask the same of the tag.
@@ -174,8 +174,9 @@ impl<S> PublicKey<S> {
         PublicKey::judged(self.set.blank(), self.octets.clone())
     }
 
-    /// Encrypts a message with random octets: refusal 9 where they end too early. Octets that were used once must not be
-    /// used again; [`Encrypted::used`] says how many were, from the front.
+    /// Encrypts a message with random octets: refusal 9 where they end too early. Octets that were used once must not
+    /// be used again; [`Encrypted::used`] says how many were, from the front, and how many groups among them were
+    /// dropped.
     ///
     /// ```
     /// use giophantus::{Error, Message, Parameters};
@@ -184,7 +185,7 @@ impl<S> PublicKey<S> {
     /// let keys = set.keygen(&[9; 100])?;
     /// let message = Message::from_counts(&set, &[2, 3])?;
     /// let encrypted = keys.public_key.encrypt(&message, &[5; 100])?;
-    /// assert_eq!(encrypted.used, 18);
+    /// assert_eq!(encrypted.used.octets, 18);
     ///
     /// let refused = keys.public_key.encrypt(&message, &[5; 17]).unwrap_err();
     /// assert_eq!(refused, Error::RandomExhausted);
@@ -196,7 +197,7 @@ impl<S> PublicKey<S> {
         let used = workspace::with(self.set.work_words(), |work| {
             ffi::encrypt(self.set.numbers(), &self.octets, message.as_ref(), random, &mut ciphertext, work)
         })?;
-        Ok(Encrypted { ciphertext: Ciphertext::judged(self.set, ciphertext), used: used as usize })
+        Ok(Encrypted { ciphertext: Ciphertext::judged(self.set, ciphertext), used })
     }
 
     /// Encrypts as [`encrypt`](Self::encrypt) does, with octets from a reader. It reads exactly the octets that it uses:

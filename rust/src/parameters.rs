@@ -239,6 +239,26 @@ impl<S> Parameters<S> {
         self.element_len() / self.places()
     }
 
+    /// The fixed part of the random octets of key generation, used where no group is dropped:
+    /// 2 × ⌈n × b / 8⌉ + qlen × (N(dX) - 1) × n, where N(d) is (d + 1)(d + 2) / 2. For each group that is dropped it uses
+    /// qlen more ([`RandomUse`](crate::RandomUse)).
+    ///
+    /// ```
+    /// let set = giophantus::Parameters::new(4, 1459, 2, 1, 1, 4)?;
+    /// assert_eq!(set.keygen_fixed_octets(), 10);
+    /// assert_eq!(set.encryption_fixed_octets(), 18);
+    /// # Ok::<(), giophantus::Error>(())
+    /// ```
+    pub fn keygen_fixed_octets(&self) -> usize {
+        self.keygen_draws().fixed_octets(self)
+    }
+
+    /// The fixed part of the random octets of an encryption: qlen × N(dr) × n + N(dX + dr) × ⌈n × b / 8⌉. For each group
+    /// that is dropped it uses qlen more.
+    pub fn encryption_fixed_octets(&self) -> usize {
+        self.encryption_draws().fixed_octets(self)
+    }
+
     /// n, as a length.
     pub(crate) fn places(&self) -> usize {
         self.n() as usize
@@ -274,7 +294,8 @@ impl<S> Parameters<S> {
     }
 
     /// Makes a secret key and its public key from random octets: refusal 9 where they end too early. Octets that were
-    /// used once must not be used again; [`Keys::used`] says how many were, from the front.
+    /// used once must not be used again; [`Keys::used`] says how many were, from the front, and how many groups among
+    /// them were dropped.
     ///
     /// ```
     /// use giophantus::{Error, Parameters};
@@ -283,7 +304,7 @@ impl<S> Parameters<S> {
     /// let random = [0x09, 0x04, 0x05, 0, 0x07, 0, 0x64, 0, 0x01, 0];
     /// let keys = set.keygen(&random)?;
     /// assert_eq!(keys.secret_key.as_ref(), [0x09, 0x04]);
-    /// assert_eq!(keys.used, 10);
+    /// assert_eq!(keys.used.octets, 10);
     /// assert!(keys.secret_key.is_zero_of(&keys.public_key)?);
     ///
     /// assert_eq!(set.keygen(&random[..9]).unwrap_err(), Error::RandomExhausted);
@@ -298,7 +319,7 @@ impl<S> Parameters<S> {
         Ok(Keys {
             secret_key: SecretKey::judged(*self, secret_key),
             public_key: PublicKey::judged(*self, public_key),
-            used: used as usize,
+            used,
         })
     }
 
@@ -314,9 +335,12 @@ impl<S> Parameters<S> {
     /// # Ok::<(), Box<dyn std::error::Error>>(())
     /// ```
     pub fn keygen_from(&self, source: impl Read) -> Result<Keys<S>, Error> {
-        let draws =
-            Draws { before: self.lengths.secret_key, below_q: self.public_key_words() - self.places(), after: 0 };
-        self.keygen(&random::read(self, &draws, source)?)
+        self.keygen(&random::read(self, &self.keygen_draws(), source)?)
+    }
+
+    /// The draws of key generation: u_x and u_y, then the elements of the public key but the constant.
+    fn keygen_draws(&self) -> Draws {
+        Draws { before: self.lengths.secret_key, below_q: self.public_key_words() - self.places(), after: 0 }
     }
 
     /// The draws of an encryption: the elements of r, then the small elements of e.
@@ -491,12 +515,12 @@ mod tests {
     fn lengths_follow_the_formulas() {
         // qlen 1 to 4, every degree, and b 3, which crosses octets.
         for (line, lengths) in [
-            ("2 73 2 1 1 2", [2, 6, 1, 12, 2, 1, 1]),
-            ("4 1459 2 1 1 4", [2, 12, 1, 24, 4, 1, 2]),
-            ("8 8388593 3 1 1 9", [4, 27, 2, 54, 9, 2, 3]),
-            ("8 2147483647 7 1 2 15", [6, 84, 2, 280, 28, 3, 4]),
-            ("2 2147483647 120 2 2 120", [30, 2880, 15, 7200, 480, 15, 4]),
-            ("4 467424413 1201 1 1 2402", [602, 14412, 301, 28824, 4804, 301, 4]),
+            ("2 73 2 1 1 2", [2, 6, 1, 12, 2, 1, 1, 6, 12]),
+            ("4 1459 2 1 1 4", [2, 12, 1, 24, 4, 1, 2, 10, 18]),
+            ("8 8388593 3 1 1 9", [4, 27, 2, 54, 9, 2, 3, 22, 39]),
+            ("8 2147483647 7 1 2 15", [6, 84, 2, 280, 28, 3, 4, 62, 198]),
+            ("2 2147483647 120 2 2 120", [30, 2880, 15, 7200, 480, 15, 4, 2430, 3105]),
+            ("4 467424413 1201 1 1 2402", [602, 14412, 301, 28824, 4804, 301, 4, 10210, 16218]),
         ] {
             let set: Parameters = line.parse().unwrap();
             let got = [
@@ -507,6 +531,8 @@ mod tests {
                 set.element_len(),
                 set.small_len(),
                 set.coefficient_len(),
+                set.keygen_fixed_octets(),
+                set.encryption_fixed_octets(),
             ];
             assert_eq!(got, lengths, "{line}");
             assert_eq!(set.work_words(), 8 * set.places());

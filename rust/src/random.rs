@@ -1,9 +1,41 @@
-//! Random octets from a reader: as many as a call will use, and not one more.
+//! Random octets: what a call used of them, and from a reader as many as a call will use, and not one more.
 
 use std::io::Read;
 
 use crate::error::Error;
 use crate::parameters::Parameters;
+
+/// What a call used of its random octets.
+///
+/// A draw below q takes a group of qlen octets ([`Parameters::coefficient_len`]). Where its number, modulo 2 to the bit
+/// length of q, is q or more, the group is dropped and the next is taken. That is no fault: with q just above a power of
+/// two nearly every second group is dropped, with q just below one hardly any.
+///
+/// `octets` is qlen × `dropped_groups` more than [`Parameters::keygen_fixed_octets`] for keys, and than
+/// [`Parameters::encryption_fixed_octets`] for a ciphertext.
+///
+/// ```
+/// use giophantus::{Message, Parameters, PublicKey};
+///
+/// let set = Parameters::new(4, 1459, 2, 1, 1, 4)?;
+/// let public_key = PublicKey::from_words(&set, &[5, 7, 100, 1, 1439, 1342])?;
+/// let message = Message::from_counts(&set, &[2, 3])?;
+/// // The first group is 1459, which isn't below q.
+/// let random = [0xB3, 0x05, 1, 0, 0, 0, 0, 0, 0, 0, 0, 0, 1, 0, 1, 0, 8, 0x0F, 0, 9];
+/// let used = public_key.encrypt(&message, &random)?.used;
+/// assert_eq!(used.octets, 20);
+/// assert_eq!(used.dropped_groups, 1);
+/// assert_eq!(used.octets, set.encryption_fixed_octets() + set.coefficient_len() * used.dropped_groups);
+/// # Ok::<(), giophantus::Error>(())
+/// ```
+#[non_exhaustive]
+#[derive(Clone, Copy, Debug, PartialEq, Eq)]
+pub struct RandomUse {
+    /// The octets used, from the front, those of dropped groups among them.
+    pub octets: usize,
+    /// The groups of qlen octets that were dropped.
+    pub dropped_groups: usize,
+}
 
 /// Of one reader about this many octets are read for one call at most: some 80 times what the largest sets need. A source
 /// that gives nothing but octets that are dropped ends here, as exhausted.
@@ -14,6 +46,13 @@ pub(crate) struct Draws {
     pub before: usize,
     pub below_q: usize,
     pub after: usize,
+}
+
+impl Draws {
+    /// The octets that they use where no group is dropped.
+    pub fn fixed_octets<S>(&self, set: &Parameters<S>) -> usize {
+        self.before + self.below_q * set.coefficient_len() + self.after
+    }
 }
 
 /// Reads what the draws will use. It reads less where the reader ends or passes [`MOST`]; the library then says that the

@@ -101,6 +101,10 @@ fn status(output: &Output) -> i32 {
     output.status.code().expect("it was not stopped by a signal")
 }
 
+fn said(output: &Output) -> String {
+    String::from_utf8_lossy(&output.stderr).into_owned()
+}
+
 #[track_caller]
 fn judge(output: &Output, expected: i32, what: &str) {
     let line = String::from_utf8_lossy(&output.stderr);
@@ -136,14 +140,14 @@ fn worked_cases() {
     let keys = ["keygen", "--set", SET_A, "--random", "octets", "--secret-key", "s", "--public-key", "p"];
     let output = place.run(&keys);
     assert_eq!(status(&output), 0);
-    assert_eq!(output.stderr, b"giophantus: 10 random octets used\n");
+    assert_eq!(said(&output), "giophantus: 10 random octets used, 0 groups of 2 octets dropped\n");
     assert_eq!(place.read("s"), place.read("secret"));
     assert_eq!(place.read("p"), place.read("public"));
 
     let encrypt =
         ["encrypt", "--set", SET_A, "--public-key", "public", "--counts", "2 3", "--random", "random", "--out", "c"];
     let output = place.run(&encrypt);
-    assert_eq!(output.stderr, b"giophantus: 18 random octets used\n");
+    assert_eq!(said(&output), "giophantus: 18 random octets used, 0 groups of 2 octets dropped\n");
     assert_eq!(place.read("c"), SENT);
 
     place.write("message", &[0x0E]);
@@ -151,6 +155,55 @@ fn worked_cases() {
     assert_eq!(place.run_with(&encrypt, &place.read("random")).stdout, SENT);
     let counts = place.good(&["decrypt", "--set", SET_A, "--secret-key", "secret", "sent", "--counts"]);
     assert_eq!(counts, "2 3\n");
+}
+
+/// As docs/GUIDE.md shows it.
+#[test]
+fn a_group_that_encrypt_drops_is_said() {
+    let place = Place::worked();
+    let random = [&[0xB3, 0x05], &place.read("random")[..]].concat();
+    place.write("octets", &random);
+    let encrypt = ["encrypt", "--set", SET_A, "--public-key", "public", "--counts", "2 3", "--random"];
+    let output = place.run(&[&encrypt[..], &["octets"]].concat());
+    assert_eq!(output.stdout, SENT);
+    assert_eq!(said(&output), "giophantus: 20 random octets used, 1 group of 2 octets dropped\n");
+    let output = place.run_with(&[&encrypt[..], &["-"]].concat(), &random);
+    assert_eq!(said(&output), "giophantus: 20 random octets used, 1 group of 2 octets dropped\n");
+}
+
+#[test]
+fn groups_that_keygen_drops_are_said() {
+    let place = Place::worked();
+    place.write("octets", &[9, 4, 5, 0, 0xB3, 5, 7, 0, 0x64, 0, 0xFF, 0xFF, 1, 0]);
+    let keygen = ["keygen", "--secret-key", "s", "--public-key", "p", "--force", "--random", "octets", "--set"];
+    let output = place.run(&[&keygen[..], &[SET_A]].concat());
+    assert_eq!(said(&output), "giophantus: 14 random octets used, 2 groups of 2 octets dropped\n");
+    assert_eq!((place.read("s"), place.read("p")), (place.read("secret"), place.read("public")));
+    // A group is one octet; 73 is dropped, and behind the last draw nothing is.
+    place.write("octets", &[1, 2, 73, 72, 0, 0, 0, 73]);
+    let output = place.run(&[&keygen[..], &["2 73 2 1 1 2"]].concat());
+    assert_eq!(said(&output), "giophantus: 7 random octets used, 1 group of 1 octet dropped\n");
+}
+
+/// Neither where the octets come from the system, nor with a refusal.
+#[test]
+fn nothing_is_said_to_be_used() {
+    let place = Place::worked();
+    let encrypt = ["encrypt", "--set", SET_A, "--public-key", "public", "--counts", "2 3", "--out", "c"];
+    let keygen = ["keygen", "--set", SET_A, "--secret-key", "s", "--public-key", "p"];
+    // As many as are used where no group is dropped.
+    place.write("for-keys", &[9, 4, 5, 0, 0xB3, 5, 7, 0, 0x64, 0]);
+    place.write("for-c", &[&[0xB3, 0x05], &place.read("random")[..16]].concat());
+    for (command, random) in [(&keygen[..], "for-keys"), (&encrypt, "for-c")] {
+        let output = place.run(&[command, &["--random", random]].concat());
+        judge(&output, 9, "refusal 9");
+        assert!(!said(&output).contains("used") && !said(&output).contains("dropped"), "{}", said(&output));
+    }
+    assert!(!place.has("s") && !place.has("p") && !place.has("c"));
+    for command in [&keygen[..], &encrypt] {
+        let output = place.run(command);
+        assert_eq!((status(&output), said(&output)), (0, String::new()));
+    }
 }
 
 #[test]
@@ -356,7 +409,13 @@ fn a_product_takes_three_files_that_can_be_read() {
 fn limits_are_printed() {
     let place = Place::new();
     let text = place.good(&["limits", "--set", SET]);
-    for line in ["bound                1455", "headroom             45", "ciphertext octets    24"] {
+    for line in [
+        "bound                1455",
+        "headroom             45",
+        "ciphertext octets    24",
+        "keygen uses          10 random octets, and 2 for each group dropped",
+        "encrypt uses         18 random octets, and 2 for each group dropped",
+    ] {
         assert!(text.lines().any(|one| one == line), "{text}");
     }
     assert!(place.good(&["limits", "--set", "4 65521 2 1 1 0"]).contains("blank"));

@@ -81,6 +81,90 @@ fn every_refusal_is_explained() {
     assert_eq!(numbers, refusals);
 }
 
+/// The sets of the table of random octets, each with the other cells of its row.
+fn random_rows() -> Vec<(Parameters, Vec<String>)> {
+    let rows = rows(&guide(), "| under the set");
+    assert!(rows.len() >= 5);
+    rows.into_iter()
+        .map(|mut row| {
+            let line = row.remove(0);
+            (line.trim_matches('`').parse().unwrap_or_else(|error| panic!("{line}: {error}")), row)
+        })
+        .collect()
+}
+
+/// The draws of a coefficient, for keys and for a ciphertext.
+fn draws(set: &Parameters) -> [u32; 2] {
+    let (n, dx, dr) = (set.n(), set.dx(), set.dr());
+    [((dx + 1) * (dx + 2) / 2 - 1) * n, (dr + 1) * (dr + 2) / 2 * n]
+}
+
+/// How likely it is that a group is kept: q / 2^k, where q has k bits.
+fn kept(set: &Parameters) -> f64 {
+    let bits = u32::BITS - set.q().leading_zeros();
+    f64::from(set.q()) / (1u64 << bits) as f64
+}
+
+/// The groups dropped on average.
+fn average(draws: u32, kept: f64) -> f64 {
+    f64::from(draws) * (1.0 / kept - 1.0)
+}
+
+/// The groups to provide besides the fixed part.
+fn groups_to_provide(draws: u32, kept: f64) -> u32 {
+    (2.0 * average(draws, kept) + 30.0).ceil() as u32
+}
+
+/// The fixed part of a call's random octets, the groups dropped on average, and the octets to provide.
+fn random_cells(set: &Parameters, fixed: usize, draws: u32) -> [String; 3] {
+    let kept = kept(set);
+    let provided = fixed + set.coefficient_len() * groups_to_provide(draws, kept) as usize;
+    [fixed.to_string(), format!("{:.1}", average(draws, kept)), provided.to_string()]
+}
+
+#[test]
+fn random_octets() {
+    for (set, cells) in random_rows() {
+        // Zeros are never dropped.
+        let zeros = vec![0; 1 << 16];
+        let keys = set.keygen(&zeros).unwrap();
+        let message = Message::from_counts(&set, &vec![0; set.counts_len()]).unwrap();
+        let encrypted = keys.public_key.encrypt(&message, &zeros).unwrap();
+        let [for_keys, for_ciphertext] = draws(&set);
+        let mut expected = random_cells(&set, keys.used.octets, for_keys).to_vec();
+        expected.extend(random_cells(&set, encrypted.used.octets, for_ciphertext));
+        assert_eq!(cells, expected, "{set}");
+    }
+}
+
+/// How likely it is that fewer groups than draws are kept, where each is kept with this probability.
+fn exhausted(draws: u32, groups: u32, kept: f64) -> f64 {
+    let [most, rest] = [draws - 1, groups - draws + 1].map(f64::from);
+    let ways: f64 = (1..draws).map(|i| (rest / f64::from(i)).ln_1p()).sum();
+    let mut exactly = (ways + most * kept.ln() + rest * (1.0 - kept).ln()).exp();
+    let mut sum = 0.0;
+    for number in (0..draws).rev() {
+        sum += exactly;
+        exactly *= f64::from(number) / f64::from(groups - number + 1) * (1.0 - kept) / kept;
+    }
+    sum
+}
+
+/// Fewer than one call in ten million is refused with 9. A group is kept with probability a half or more. Tried for up to
+/// 400 draws and for those of the table's rows, with each percentage and with the rows' own probabilities.
+#[test]
+fn the_octets_to_provide_suffice() {
+    assert!((exhausted(2, 3, 0.5) - 0.5).abs() < 1e-9);
+    let sets: Vec<Parameters> = random_rows().into_iter().map(|(set, _)| set).collect();
+    for draws in (4..=400).chain(sets.iter().flat_map(draws)) {
+        let percentages = (50..100).map(|percent| f64::from(percent) / 100.0);
+        for kept in percentages.chain(sets.iter().map(kept)) {
+            let groups = draws + groups_to_provide(draws, kept);
+            assert!(exhausted(draws, groups, kept) < 1e-7, "{draws} draws, {kept}");
+        }
+    }
+}
+
 #[test]
 fn a_product_in_the_ring() {
     let guide = guide();

@@ -29,12 +29,14 @@ impl Read for Octets {
     }
 }
 
-/// Every ℓ, every pair of degrees, qlen 1 to 4, messages of no, some and all places.
-const SETS: [&str; 12] = [
+/// Every ℓ, every pair of degrees, qlen 1 to 4, q just below and just above a power of two, messages of no, some and all
+/// places.
+const SETS: [&str; 13] = [
     "2 73 2 1 1 2",
     "2 251 3 1 1 2",
     "4 1459 2 1 1 4",
     "4 65521 2 1 1 2",
+    "4 65537 2 1 1 4",
     "4 2147483647 9 1 2 18",
     "4 2147483647 25 2 2 30",
     "8 8388593 3 1 1 9",
@@ -77,6 +79,7 @@ fn sums_within_the_headroom_decrypt_to_the_totals() {
 
 #[test]
 fn a_reader_gives_what_a_slice_gives_and_loses_nothing() {
+    let (mut dropped_by_keygen, mut dropped_by_encryption) = (0, 0);
     for set in sets() {
         let mut source = vec![0; 1 << 16];
         Octets(u64::from(set.n())).read_exact(&mut source).unwrap();
@@ -86,14 +89,65 @@ fn a_reader_gives_what_a_slice_gives_and_loses_nothing() {
         assert_eq!(read.public_key, whole.public_key);
         assert_eq!(read.secret_key.as_ref(), whole.secret_key.as_ref());
         assert_eq!(read.used, whole.used);
-        assert_eq!(rest.len(), source.len() - whole.used);
+        assert_eq!(rest.len(), source.len() - whole.used.octets);
+        dropped_by_keygen += read.used.dropped_groups;
 
         let message = Message::from_counts(&set, &vec![1; set.counts_len()]).unwrap();
         let whole = whole.public_key.encrypt(&message, rest).unwrap();
         let before = rest.len();
         let read = read.public_key.encrypt_from(&message, &mut rest).unwrap();
         assert_eq!(read.ciphertext, whole.ciphertext);
-        assert_eq!((read.used, before - rest.len()), (whole.used, whole.used));
+        assert_eq!((read.used, before - rest.len()), (whole.used, whole.used.octets));
+        dropped_by_encryption += read.used.dropped_groups;
+    }
+    assert!(dropped_by_keygen > 0 && dropped_by_encryption > 0);
+}
+
+/// How many of these groups have a number of q or more.
+fn too_large(set: &Parameters, groups: &[u8]) -> usize {
+    let bits = u32::BITS - set.q().leading_zeros();
+    let number = |group: &[u8]| group.iter().rev().fold(0u64, |number, &octet| number << 8 | u64::from(octet));
+    let groups = groups.chunks_exact(set.coefficient_len());
+    groups.filter(|group| number(group) % (1 << bits) >= u64::from(set.q())).count()
+}
+
+/// The dropped groups are those among the octets, and the octets used are the fixed part and these.
+#[test]
+fn dropped_groups_are_counted() {
+    for set in sets() {
+        let mut source = vec![0; 1 << 16];
+        Octets(11).read_exact(&mut source).unwrap();
+        let keys = set.keygen(&source).unwrap();
+        let groups = &source[set.secret_key_len()..keys.used.octets];
+        assert_eq!(keys.used.dropped_groups, too_large(&set, groups), "{set}");
+        let dropped_octets = set.coefficient_len() * keys.used.dropped_groups;
+        assert_eq!(keys.used.octets, set.keygen_fixed_octets() + dropped_octets, "{set}");
+
+        let message = Message::from_counts(&set, &vec![1; set.counts_len()]).unwrap();
+        let used = keys.public_key.encrypt(&message, &source).unwrap().used;
+        let small_elements = set.ciphertext_len() / set.element_len() * set.small_len();
+        let groups = &source[..used.octets - small_elements];
+        assert_eq!(used.dropped_groups, too_large(&set, groups), "{set}");
+        let dropped_octets = set.coefficient_len() * used.dropped_groups;
+        assert_eq!(used.octets, set.encryption_fixed_octets() + dropped_octets, "{set}");
+    }
+}
+
+/// draws × (2^k / q - 1) on average, where q has k bits: hardly any just below a power of two, one for each draw just
+/// above. The limits of the second and third set are five standard deviations away; draws × (1 - q / 2^k) would be 2000
+/// and 3571 there.
+#[test]
+fn as_many_groups_are_dropped_as_q_makes_likely() {
+    let mut octets = Octets(12);
+    for (line, least, most) in [
+        ("4 65521 2 1 1 4", 0, 10),
+        ("4 65537 2 1 1 4", 3550, 4450),
+        ("16 52129279 8 1 1 16", 4200, 5000),
+        ("16 2147483647 8 1 1 32", 0, 0),
+    ] {
+        let set: Parameters = line.parse().unwrap();
+        let dropped: usize = (0..1000).map(|_| set.keygen_from(&mut octets).unwrap().used.dropped_groups).sum();
+        assert!((least..=most).contains(&dropped), "{set}: {dropped}");
     }
 }
 
@@ -103,9 +157,10 @@ fn one_octet_less_than_used_is_exhausted() {
         let mut source = vec![0; 1 << 16];
         Octets(7).read_exact(&mut source).unwrap();
         let keys = set.keygen(&source).unwrap();
-        assert_eq!(set.keygen(&source[..keys.used]).unwrap().used, keys.used);
-        assert_eq!(set.keygen(&source[..keys.used - 1]).unwrap_err(), Error::RandomExhausted);
-        assert_eq!(set.keygen_from(&source[..keys.used - 1]).unwrap_err(), Error::RandomExhausted);
+        let used = keys.used.octets;
+        assert_eq!(set.keygen(&source[..used]).unwrap().used, keys.used);
+        assert_eq!(set.keygen(&source[..used - 1]).unwrap_err(), Error::RandomExhausted);
+        assert_eq!(set.keygen_from(&source[..used - 1]).unwrap_err(), Error::RandomExhausted);
         assert_eq!(set.keygen(&[]).unwrap_err(), Error::RandomExhausted);
     }
 }

@@ -47,7 +47,7 @@ fn case_2_keys() {
     let keys = set().keygen(&KEY_RANDOM).unwrap();
     assert_eq!(keys.secret_key.as_ref(), SECRET_KEY);
     assert_eq!(keys.public_key.as_ref(), PUBLIC_KEY);
-    assert_eq!(keys.used, 10);
+    assert_eq!((keys.used.octets, keys.used.dropped_groups), (10, 0));
     assert!(keys.secret_key.is_zero_of(&keys.public_key).unwrap());
     assert_eq!(keys.secret_key.to_words(), [1, 2, 0, 1]);
     assert_eq!(keys.public_key.to_words(), [5, 7, 100, 1, 1439, 1342]);
@@ -57,7 +57,7 @@ fn case_2_keys() {
 fn case_3_encryption() {
     let encrypted = public_key().encrypt(&message(), &RANDOM).unwrap();
     assert_eq!(encrypted.ciphertext.as_ref(), CIPHERTEXT);
-    assert_eq!(encrypted.used, 18);
+    assert_eq!((encrypted.used.octets, encrypted.used.dropped_groups), (18, 0));
     assert_eq!(message().to_counts(), [2, 3]);
 }
 
@@ -77,19 +77,37 @@ fn case_5_draws() {
     reduced[..2].copy_from_slice(&[0x01, 0x08]);
     let encrypted = public_key().encrypt(&message(), &reduced).unwrap();
     assert_eq!(encrypted.ciphertext.as_ref(), CIPHERTEXT);
-    assert_eq!(encrypted.used, 18);
+    assert_eq!((encrypted.used.octets, encrypted.used.dropped_groups), (18, 0));
 
     let dropped = [&[0xB3, 0x05], &RANDOM[..]].concat();
     for encrypted in [public_key().encrypt(&message(), &dropped), public_key().encrypt_from(&message(), &dropped[..])] {
         let encrypted = encrypted.unwrap();
         assert_eq!(encrypted.ciphertext.as_ref(), CIPHERTEXT);
-        assert_eq!(encrypted.used, 20);
+        assert_eq!((encrypted.used.octets, encrypted.used.dropped_groups), (20, 1));
     }
+}
+
+/// 1459 in front of every draw: all are dropped, and one behind the last draw isn't counted.
+#[test]
+fn case_5_dropped_in_front_of_every_draw() {
+    let dropped =
+        |groups: &[u8]| groups.chunks(2).flat_map(|group| [&[0xB3, 0x05], group].concat()).collect::<Vec<_>>();
+    let random = [&KEY_RANDOM[..2], &dropped(&KEY_RANDOM[2..]), &[0xB3, 0x05]].concat();
+    let keys = set().keygen(&random).unwrap();
+    assert_eq!((keys.secret_key.as_ref(), keys.public_key.as_ref()), (&SECRET_KEY[..], &PUBLIC_KEY[..]));
+    assert_eq!((keys.used.octets, keys.used.dropped_groups), (18, 4));
+
+    let random = [&dropped(&RANDOM[..12])[..], &RANDOM[12..], &[0xB3, 0x05]].concat();
+    let encrypted = public_key().encrypt(&message(), &random).unwrap();
+    assert_eq!(encrypted.ciphertext.as_ref(), CIPHERTEXT);
+    assert_eq!((encrypted.used.octets, encrypted.used.dropped_groups), (30, 6));
 }
 
 #[test]
 fn case_6_exhausted() {
     assert_eq!(public_key().encrypt(&message(), &RANDOM[..17]).unwrap_err(), Error::RandomExhausted);
+    let dropped = [&[0xB3, 0x05], &RANDOM[..17]].concat();
+    assert_eq!(public_key().encrypt(&message(), &dropped).unwrap_err(), Error::RandomExhausted);
     assert_eq!(set().keygen(&KEY_RANDOM[..9]).unwrap_err(), Error::RandomExhausted);
     assert_eq!(set().keygen_from(&KEY_RANDOM[..9]).unwrap_err(), Error::RandomExhausted);
 }
@@ -127,7 +145,7 @@ fn case_9_no_message_bits() {
     let keys = blank.keygen(&KEY_RANDOM).unwrap();
     let message = Message::try_from((&blank, &[][..])).unwrap();
     let encrypted = keys.public_key.encrypt(&message, &RANDOM).unwrap();
-    assert_eq!(encrypted.used, 18);
+    assert_eq!((encrypted.used.octets, encrypted.used.dropped_groups), (18, 0));
     let decrypted = keys.secret_key.decrypt(&encrypted.ciphertext).unwrap();
     assert!(decrypted.is_blank() && decrypted.as_ref().is_empty() && decrypted.to_counts().is_empty());
 

@@ -6,11 +6,11 @@
 --   Zero              what the zero test's yes says, a field for each test;  zero-told, zero-of: that it does
 --   ..Told            what an accepted call says, a field for each test and for its output
 -- Assumes nothing.
-use Prim.Native.Nat.{ℕ, _%_, _<_}
+use Prim.Native.Nat.{ℕ, _%_, _≤_, _<_}
 use mathlib.Core.Path.{_≡_, refl, ap}
 use mathlib.Core.Bool.{Bool, true, false, cond, not}
 use mathlib.Core.List.{List}
-use borrow.Author.Tests.{eqb-true, not-false, eq-eqb}
+use borrow.Author.Tests.{eqb-true, ltb-false, not-false, eq-eqb}
 use lib.Dec.{ltb, lit<}
 use lib.ListN.{length, drop}
 use Rattle.definitions.specs.Refusals.{Test, firstRefusal, untouched, accepted, answer}
@@ -19,7 +19,7 @@ use Rattle.definitions.specs.Ring.{modulo}
 use Rattle.definitions.specs.Monomials.{polynomialOf, value}
 use Rattle.definitions.specs.Octets.{paddingClear}
 use Rattle.definitions.specs.Draws.{secretDrawn}
-use Rattle.definitions.specs.Calls.{KeyPair, Encrypted, smallOf, secretX, secretY, polynomialFrom, octetsFrom, secretBitsClear, elementsFit, lengthTests, keysExact, encryptExact, addExact, decryptExact, keyDraws, keyPairOf, keygenAnswer, isZeroAt, isZeroAnswer, maskDraws, noiseOf, encryptedWith, maskLength, encryptAnswer, sumModulo, addAnswer}
+use Rattle.definitions.specs.Calls.{KeyPair, Encrypted, smallOf, secretX, secretY, polynomialFrom, octetsFrom, secretBitsClear, elementsFit, lengthTests, keysExact, encryptExact, addExact, decryptExact, keyDraws, keyPairOf, keygenAnswer, isZeroAt, isZeroAnswer, maskDraws, noiseOf, encryptedWith, maskUsed, encryptUsed, encryptAnswer, sumModulo, addAnswer}
 use Rattle.definitions.specs.Demand3.{AcceptedSet, ZeroOf}
 use Rattle.definitions.proofs.Sums.{every-true, every-at}
 use Rattle.definitions.proofs.Tests.{both-true, neither-true}
@@ -125,6 +125,7 @@ zero-of p public secret z =
 
 pub record KeygenTold (p : Parameters) (random : List ℕ) (keys : KeyPair) : Type 0 where
   pub set : AcceptedSet p
+  pub room : secretLength p ≤ length random
   pub enough : keyDraws p random .enough ≡ true
   pub made : keyPairOf p (secretDrawn p random) (secretDrawn p (drop (smallLength p) random)) (keyDraws p random) ≡ keys
 
@@ -133,10 +134,11 @@ pub keygen-told : (p : Parameters) (random : List ℕ) (secretLen publicLen work
 unfolding keygenAnswer
 keygen-told p random secretLen publicLen workLen keys given =
     let told = answer-accepted-only _ _ _ keys given in
-    let exhausted = firstRefusal-passed 9 _ _ (lit< tt) (told .1) in
+    let octets = neither-true (ltb (length random) (secretLength p)) (not (keyDraws p random .enough)) (firstRefusal-passed 9 _ _ (lit< tt) (told .1) .0) in
     record {
       set = lengthTests-passed p _ (told .0) .0;
-      enough = not-false _ (neither-true (ltb (length random) (secretLength p)) (not (keyDraws p random .enough)) (exhausted .0) .1);
+      room = ltb-false _ _ (octets .0);
+      enough = not-false _ (octets .1);
       made = told .2;
     }
 
@@ -148,11 +150,15 @@ pub record EncryptTold (p : Parameters) (public message random : List ℕ) (e : 
   pub message-exact : length message ≡ messageLength p
   pub padded : paddingClear (p .mlen) message ≡ true
   pub fits : elementsFit p (monomialCount (p .dx)) public ≡ true
+  pub enough : maskDraws p random .enough ≡ true
+  pub room : encryptUsed p random ≤ length random
   pub encrypted :
       octetsFrom p (degree p)
       (encryptedWith p (polynomialFrom p public) (smallOf p message) (polynomialOf (p .n) (maskDraws p random .values))
-      (noiseOf p (drop (maskLength p random) random)))
+      (noiseOf p (drop (maskUsed p random) random)))
       ≡ e .ciphertext
+  pub used : encryptUsed p random ≡ e .used
+  pub dropped : maskDraws p random .dropped ≡ e .droppedGroups
 
 pub encrypt-told : (p : Parameters) (public message random : List ℕ) (ciphertextLen workLen : ℕ) (e : Encrypted)
     → encryptAnswer p public message random ciphertextLen workLen ≡ accepted e → EncryptTold p public message random e
@@ -163,13 +169,18 @@ encrypt-told p public message random ciphertextLen workLen e given =
     let lengths = encryptExact-told p (first .1) in
     let padding = firstRefusal-passed 7 _ _ (lit< tt) (told .1) in
     let inside = firstRefusal-passed 8 _ _ (lit< tt) (padding .1) in
+    let octets = neither-true (not (maskDraws p random .enough)) _ (firstRefusal-passed 9 _ _ (lit< tt) (inside .1) .0) in
     record {
       set = first .0;
       public-exact = lengths .0;
       message-exact = lengths .1;
       padded = not-false _ (padding .0);
       fits = not-false _ (inside .0);
+      enough = not-false _ (octets .0);
+      room = ltb-false _ _ (octets .1);
       encrypted = ap (λ (x : Encrypted). x .ciphertext) (told .2);
+      used = ap (λ (x : Encrypted). x .used) (told .2);
+      dropped = ap (λ (x : Encrypted). x .droppedGroups) (told .2);
     }
 
 -- ---- addition

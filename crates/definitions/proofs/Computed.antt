@@ -1,5 +1,5 @@
 -- What follows by computing from the definitions alone: every row of the table of P cases (01, "Worked list"), that the witness's list is legal
--- and its ledger what it should be, and that the weak set decrypts wrong.
+-- and its ledger what it should be, that the weak set decrypts wrong, and what the keys and the ciphertext with dropped groups report.
 -- Assumes nothing.
 use Prim.Native.Nat.{ℕ, _<_}
 use mathlib.Core.Path.{_≡_, refl}
@@ -12,14 +12,15 @@ use Rattle.definitions.specs.Parameters.{smallBits, termSum, bound, rang
 use Rattle.definitions.specs.Ring.{modulo, add, scale, conv, one, power}
 use Rattle.definitions.specs.Monomials.{ofDegree, monomials, monomialAt, polynomialOf, coefficientsOf, constantTerm, sumOf, sameMonomial, productOf, evaluated, valueOver, value}
 use Rattle.definitions.specs.Octets.{numberOf, octetsOf, coefficientAt, decoded, encoded, coefficientsFit, bitAt, regrouped, unpacked, packed, paddingClear}
-use Rattle.definitions.specs.Draws.{candidates, draws, secretDrawn, noiseDrawn}
-use Rattle.definitions.specs.Calls.{smallOf, secretX, secretY, decodedElements, octetsFrom, secretBitsClear, elementsFit, lengthTests, keysExact, encryptExact, addExact, decryptExact, keyDraws, keyConstant, keyPairOf, keygenAnswer, maskDraws, noiseOf, encryptedWith, maskLength, encryptUsed, encryptAnswer, decryptedValue, decryptedElement, tailClear, messageOf, decryptedFrom, decryptAnswer, isZeroAt, isZeroAnswer, sumModulo, addAnswer}
+use Rattle.definitions.specs.Draws.{grouped, draws, drawsBelow, secretDrawn, noiseDrawn}
+use Rattle.definitions.specs.Calls.{smallOf, secretX, secretY, decodedElements, octetsFrom, secretBitsClear, elementsFit, lengthTests, keysExact, encryptExact, addExact, decryptExact, keyDraws, keyConstant, keyPairOf, keygenAnswer, keygenExit, maskDraws, noiseOf, encryptedWith, maskUsed, encryptUsed, encryptAnswer, encryptExit, decryptedValue, decryptedElement, tailClear, messageOf, decryptedFrom, decryptAnswer, isZeroAt, isZeroAnswer, sumModulo, addAnswer}
 use borrow.Author.Tests.{eqb-true}
 use lib.Dec.{eqb, lit<, lit≤}
 use Rattle.definitions.specs.Ledger.{operandOf, ciphertextAnswer, callAnswer, givenAfter, givenBy, eventOf, events, entryAfter, ledgerFrom, ledger, FromList, FromListUnder, LegalCall, Legal}
 use Rattle.definitions.proofs.Sums.{every-at}
 use Rattle.definitions.specs.WorkedCases.{Row, cases}
 use Rattle.definitions.specs.Witness.{Witnessed, Weak}
+use Rattle.definitions.specs.DroppedGroups.{drawStart, keygenFixed, encryptFixed, DroppedGroupsWitnessed}
 
 -- equal at every place, by computing each
 everywhere : (n m : ℕ) (f g : ℕ → ℕ → ℕ) → every n (λ i. every m (λ k. eqb (f i k) (g i k))) ≡ true
@@ -27,16 +28,16 @@ everywhere : (n m : ℕ) (f g : ℕ → ℕ → ℕ) → every n (λ i. every m 
 everywhere n m f g e i l k s =
     eqb-true (f i k) (g i k) (every-at m (λ k. eqb (f i k) (g i k)) (every-at n (λ i. every m (λ k. eqb (f i k) (g i k))) e l) s)
 
-computed : (map (λ (r : Row). r .given) cases ≡ map (λ (r : Row). r .expected) cases) × Witnessed × Weak
+computed : (map (λ (r : Row). r .given) cases ≡ map (λ (r : Row). r .expected) cases) × Witnessed × Weak × DroppedGroupsWitnessed
 unfolding
     cases leadingZeros sum every tabulate joined firstRefusal answer smallBits termSum bound rangeFits ringFits degreeFits modulusFits messageFits setTests
     bitLength qlen monomialCount smallLength secretLength elementsLength publicLength ciphertextLength messageLength workLength modulo add scale conv
     one power ofDegree monomials monomialAt polynomialOf coefficientsOf constantTerm sumOf sameMonomial productOf evaluated valueOver value numberOf
-    octetsOf coefficientAt decoded encoded coefficientsFit bitAt regrouped unpacked packed paddingClear candidates draws secretDrawn noiseDrawn
-    smallOf secretX secretY decodedElements octetsFrom secretBitsClear elementsFit lengthTests keysExact encryptExact addExact decryptExact keyDraws keyConstant keyPairOf keygenAnswer
-    maskDraws noiseOf encryptedWith maskLength encryptUsed encryptAnswer decryptedValue decryptedElement tailClear messageOf decryptedFrom
+    octetsOf coefficientAt decoded encoded coefficientsFit bitAt regrouped unpacked packed paddingClear grouped draws drawsBelow secretDrawn noiseDrawn
+    smallOf secretX secretY decodedElements octetsFrom secretBitsClear elementsFit lengthTests keysExact encryptExact addExact decryptExact keyDraws keyConstant keyPairOf keygenAnswer keygenExit
+    maskDraws noiseOf encryptedWith maskUsed encryptUsed encryptAnswer encryptExit decryptedValue decryptedElement tailClear messageOf decryptedFrom
     decryptAnswer isZeroAt isZeroAnswer sumModulo addAnswer operandOf ciphertextAnswer callAnswer givenAfter givenBy eventOf events entryAfter
-    ledgerFrom ledger FromList FromListUnder LegalCall Legal
+    ledgerFrom ledger FromList FromListUnder LegalCall Legal drawStart keygenFixed encryptFixed
 computed = (
   refl,
   record {
@@ -60,6 +61,22 @@ computed = (
     message = refl;
     decrypted = refl;
   },
+  record {
+    made = refl;
+    encrypted = refl;
+    keygen-refused = refl;
+    encrypt-refused = refl;
+    starts = refl;
+    dropped = refl;
+    enough = refl;
+    at-36 = refl;
+    at-128 = refl;
+    at-65521 = refl;
+    unfinished-draw = refl;
+    unfinished-run = refl;
+    keygen-fixed = refl;
+    encrypt-fixed = refl;
+  },
 )
 
 pub worked-cases : map (λ (r : Row). r .given) cases ≡ map (λ (r : Row). r .expected) cases
@@ -70,3 +87,6 @@ witnessed = computed .1
 
 pub weak : Weak
 weak = computed .2
+
+pub dropped-groups-witnessed : DroppedGroupsWitnessed
+dropped-groups-witnessed = computed .3

@@ -1,27 +1,36 @@
 -- Why random octets past the last draw do not matter, and why draws may be made part by part: draws take groups from the front, one by one.
 --
---   draws-kept, draws-dropped   one group: below q it is kept, otherwise dropped
+--   draws-kept, draws-dropped   one candidate: it is kept where it passes, otherwise dropped
+--   draws-values-pass           what is kept passes;  draws-values-length: and is as much as was asked for
+--   draws-groups                the groups taken are those kept and those dropped;  draws-groups-le: they are among the groups given
 --   thenDrawn, draws-split      a + b draws are a draws, then b from the groups left
---   draws-append                groups after enough draws change nothing;  draws-exhausted: without enough, all groups were taken
---   candidates-append           more octets: the same groups first;  candidates-cons, candidates-short: the groups one by one
+--   draws-first                 a single draw keeps the first candidate that passes, and drops those before it;  draws-none: without enough, all
+--   draws-append                groups after enough draws change nothing;  draws-taken: the groups taken give the same without them
+--   grouped-append              more octets: the same groups first;  draws-grouped-append: and the same draws, where there were enough
+--   grouped-cons, grouped-short the groups one by one;  length-grouped: how many there are
+--   grouped-drop                the groups of what is left once some were taken;  grouped-take: and those of what was taken
+--   draws-grouped-within        the octets taken are among those given;  draws-grouped-taken: they give the same alone
+--   draws-grouped-split         further draws go on after them
+--   drawsBelow-..               the laws for draws below q
 --   keygenAnswer-append ..      an accepted call answers the same with more random octets
 -- Assumes nothing.
-use Prim.Native.Nat.{ℕ, zero, suc, _+_, _*_, _/_, _%_, _^_, _≤_, _<_}
+use Prim.Native.Nat.{ℕ, zero, suc, _+_, _*_, _/_, _≤_, _<_}
 use mathlib.Core.Path.{_≡_, refl, sym, ap, ap₂, _∙_}
-use mathlib.Core.Bool.{true, false, _&&_}
+use mathlib.Core.Bool.{Bool, true, false, _&&_, true≢false, false≢true}
 use mathlib.Core.List.{List, [], _∷_, _++_}
 use native.Mathlib.Numerals.{add-one}
-use native.Mathlib.Nat.{div-eq-sub-div, div-eq-of-lt, zero-add, suc-add, zero-lt-suc, le-of-suc-le-suc, le-trans, div-zero, div-mul-le-self, le-div-iff-mul-le, mul-le-mul-right, suc-mul}
+use native.Mathlib.Nat.{div-eq-sub-div, div-eq-of-lt, zero-add, zero-mul, mul-zero, suc-add, zero-lt-suc, le-of-suc-le-suc, le-trans, div-zero, div-mul-le-self, le-div-iff-mul-le, mul-le-mul-right, mul-le-mul-left, mul-div-le, mul-div-cancel, mul-comm, suc-mul, mul-suc}
 use native.Mathlib.Decide.{decLt}
 use native.Mathlib.Omega.{arith}
-use borrow.Author.Tests.{ltb-false, not-false, lt-ltb, le-ltb}
-use lib.ListN.{length, take, drop, length-append, length-drop, take-append-drop}
-use lib.Seq.{take-append-le, drop-append-le, drop-drop}
+use borrow.Author.Tests.{ltb-true, ltb-false, not-false, le-ltb}
+use lib.Dec.{ltb}
+use lib.ListN.{length, getD, take, drop, length-append, length-drop, take-append-drop}
+use lib.Seq.{length-take-le, take-append-le, drop-append-le, drop-drop}
 use Rattle.definitions.specs.Sequences.{tabulate}
-use Rattle.definitions.specs.Draws.{Drawn, kept, dropped, draws, candidates, secretDrawn, noiseDrawn}
-use Rattle.definitions.specs.Parameters.{Parameters, smallBits, qlen, bitLength, smallLength, secretLength, degree}
-use Rattle.definitions.specs.Octets.{numberOf, unpacked}
-use Rattle.definitions.specs.Calls.{KeyPair, Encrypted, keyDraws, keygenAnswer, maskDraws, noiseOf, encryptedWith, maskLength, encryptUsed, octetsFrom, encryptAnswer}
+use Rattle.definitions.specs.Draws.{Drawn, keep, discard, draws, grouped, groupNumber, drawsBelow, octetsUsed, secretDrawn, noiseDrawn}
+use Rattle.definitions.specs.Parameters.{Parameters, smallBits, qlen, smallLength, secretLength, degree}
+use Rattle.definitions.specs.Octets.{unpacked}
+use Rattle.definitions.specs.Calls.{KeyPair, Encrypted, keyDraws, keygenAnswer, maskDraws, noiseOf, encryptedWith, maskUsed, encryptUsed, octetsFrom, encryptAnswer}
 use Rattle.definitions.specs.Ring.{Element}
 use Rattle.definitions.specs.Monomials.{Polynomial, sumOf}
 use Rattle.definitions.specs.Refusals.{accepted}
@@ -29,92 +38,161 @@ use Rattle.definitions.proofs.Tests.{neither-true}
 use Rattle.definitions.proofs.Refusals.{firstRefusal-passed, answer-accepted-only}
 use Rattle.definitions.proofs.Parameters.{secretLength-halves}
 use Rattle.definitions.proofs.Sums.{length-tabulate, tabulate-cong}
-use Rattle.definitions.proofs.Octets.{AllBelow, below-nil, below-cons, coefficientAt-append, coefficientAt-zero, coefficientAt-suc, octetsFrom-cong}
+use Rattle.definitions.proofs.Octets.{AllBelow, octetsFrom-cong}
 
--- ---- one group
+-- ---- one candidate
 
-pub draws-kept : (q count x : ℕ) (xs : List ℕ) → x < q → draws q (suc count) (x ∷ xs) ≡ kept x (draws q count xs)
-unfolding draws
-draws-kept q count x xs h = rw (lt-ltb x q h)
+module _ {A : Type 0} (passes : A → Bool) where
+  pub draws-kept : (count : ℕ) (x : A) (xs : List A) → passes x ≡ true → draws passes (suc count) (x ∷ xs) ≡ keep x (draws passes count xs)
+  unfolding draws
+  draws-kept count x xs h = rw h
 
-pub draws-dropped : (q count x : ℕ) (xs : List ℕ) → q ≤ x → draws q (suc count) (x ∷ xs) ≡ dropped (draws q (suc count) xs)
-unfolding draws
-draws-dropped q count x xs h = rw (le-ltb x q h)
+  pub draws-dropped : (count : ℕ) (x : A) (xs : List A) → passes x ≡ false → draws passes (suc count) (x ∷ xs) ≡ discard (draws passes (suc count) xs)
+  unfolding draws
+  draws-dropped count x xs h = rw h
 
--- a statement that holds either way holds of the draws
-draws-either : (P : Drawn → Type 0) (q count x : ℕ) (xs : List ℕ) → (x < q → P (kept x (draws q count xs)))
-    → (q ≤ x → P (dropped (draws q (suc count) xs))) → P (draws q (suc count) (x ∷ xs))
-draws-either P q count x xs keep other =
-    elim (decLt x q) [
-      | yes h ↦ rw (draws-kept q count x xs h) (keep h)
-      | no g ↦ let h : q ≤ x = omega arith in rw (draws-dropped q count x xs h) (other h)
-    ]
+  -- a statement that holds either way holds of the draws
+  draws-either : (P : Drawn A → Type 0) (count : ℕ) (x : A) (xs : List A) → (passes x ≡ true → P (keep x (draws passes count xs)))
+      → (passes x ≡ false → P (discard (draws passes (suc count) xs))) → P (draws passes (suc count) (x ∷ xs))
+  draws-either P count x xs one other = go (passes x) refl
+    where
+      go : (t : Bool) → passes x ≡ t → P (draws passes (suc count) (x ∷ xs))
+      go true e = rw (draws-kept count x xs e) (one e)
+      go false e = rw (draws-dropped count x xs e) (other e)
 
--- ---- what is drawn
+  -- ---- what is drawn
 
-pub draws-values-below : (q count : ℕ) (xs : List ℕ) → AllBelow q (draws q count xs .values)
-unfolding draws
-draws-values-below q zero xs = below-nil q
-draws-values-below q (suc count) [] = below-nil q
-draws-values-below q (suc count) (x ∷ xs) =
-    draws-either (λ d. AllBelow q (d .values)) q count x xs
-    (λ h. below-cons (draws q count xs .values) h (draws-values-below q count xs)) (λ h. draws-values-below q (suc count) xs)
+  pub draws-values-pass : (count : ℕ) (xs : List A) (d : A) (k : ℕ) → k < length (draws passes count xs .values)
+      → passes (getD (draws passes count xs .values) k d) ≡ true
+  unfolding draws
+  draws-values-pass zero xs d k = λ l. let z : ⊥ = omega arith in absurd z
+  draws-values-pass (suc count) [] d k = λ l. let z : ⊥ = omega arith in absurd z
+  draws-values-pass (suc count) (x ∷ xs) d zero =
+      draws-either (λ r. 0 < length (r .values) → passes (getD (r .values) 0 d) ≡ true) count x xs
+      (λ h l. h) (λ h. draws-values-pass (suc count) xs d zero)
+  draws-values-pass (suc count) (x ∷ xs) d (suc k) =
+      draws-either (λ r. suc k < length (r .values) → passes (getD (r .values) (suc k) d) ≡ true) count x xs
+      (λ h l. draws-values-pass count xs d k (le-of-suc-le-suc l)) (λ h. draws-values-pass (suc count) xs d (suc k))
 
-pub draws-values-length : (q count : ℕ) (xs : List ℕ) → draws q count xs .enough ≡ true → length (draws q count xs .values) ≡ count
-unfolding draws
-draws-values-length q zero xs = λ e. refl
-draws-values-length q (suc count) [] = λ e. cc
-draws-values-length q (suc count) (x ∷ xs) =
-    draws-either (λ d. d .enough ≡ true → length (d .values) ≡ suc count) q count x xs
-    (λ h e. ap suc (draws-values-length q count xs e)) (λ h. draws-values-length q (suc count) xs)
+  pub draws-values-length : (count : ℕ) (xs : List A) → draws passes count xs .enough ≡ true → length (draws passes count xs .values) ≡ count
+  unfolding draws
+  draws-values-length zero xs = λ e. refl
+  draws-values-length (suc count) [] = λ e. cc
+  draws-values-length (suc count) (x ∷ xs) =
+      draws-either (λ d. d .enough ≡ true → length (d .values) ≡ suc count) count x xs
+      (λ h e. ap suc (draws-values-length count xs e)) (λ h. draws-values-length (suc count) xs)
 
-pub draws-groups-le : (q count : ℕ) (xs : List ℕ) → draws q count xs .groups ≤ length xs
-unfolding draws
-draws-groups-le q zero xs = omega arith
-draws-groups-le q (suc count) [] = omega arith
-draws-groups-le q (suc count) (x ∷ xs) =
-    draws-either (λ d. d .groups ≤ suc (length xs)) q count x xs
-    (λ h. omega (arith, draws-groups-le q count xs)) (λ h. omega (arith, draws-groups-le q (suc count) xs))
+  pub draws-groups : (count : ℕ) (xs : List A) → draws passes count xs .enough ≡ true → draws passes count xs .groups ≡ count + draws passes count xs .dropped
+  unfolding draws
+  draws-groups zero xs = λ e. refl
+  draws-groups (suc count) [] = λ e. cc
+  draws-groups (suc count) (x ∷ xs) =
+      draws-either (λ d. d .enough ≡ true → d .groups ≡ suc count + d .dropped) count x xs
+      (λ h e. omega (arith, draws-groups count xs e)) (λ h e. omega (arith, draws-groups (suc count) xs e))
 
--- without enough, every group was taken
-pub draws-exhausted : (q count : ℕ) (xs : List ℕ) → draws q count xs .enough ≡ false → draws q count xs .groups ≡ length xs
-unfolding draws
-draws-exhausted q zero xs = λ e. cc
-draws-exhausted q (suc count) [] = λ e. refl
-draws-exhausted q (suc count) (x ∷ xs) =
-    draws-either (λ d. d .enough ≡ false → d .groups ≡ suc (length xs)) q count x xs
-    (λ h e. ap suc (draws-exhausted q count xs e)) (λ h e. ap suc (draws-exhausted q (suc count) xs e))
+  pub draws-groups-le : (count : ℕ) (xs : List A) → draws passes count xs .groups ≤ length xs
+  unfolding draws
+  draws-groups-le zero xs = omega arith
+  draws-groups-le (suc count) [] = omega arith
+  draws-groups-le (suc count) (x ∷ xs) =
+      draws-either (λ d. d .groups ≤ suc (length xs)) count x xs
+      (λ h. omega (arith, draws-groups-le count xs)) (λ h. omega (arith, draws-groups-le (suc count) xs))
 
--- ---- groups that go on, and draws part by part
+  -- a single draw: the candidate that it keeps stands behind as many as it drops
+  pub record First (d : A) (xs : List A) (drawn : Drawn A) : Type 0 where
+    pub within : drawn .dropped < length xs
+    pub value : drawn .values ≡ getD xs (drawn .dropped) d ∷ []
+    pub kept : passes (getD xs (drawn .dropped) d) ≡ true
+    pub dropped-before : (i : ℕ) → i < drawn .dropped → passes (getD xs i d) ≡ false
 
-pub draws-append : (q count : ℕ) (xs ys : List ℕ) → draws q count xs .enough ≡ true → draws q count (xs ++ ys) ≡ draws q count xs
-unfolding draws
-draws-append q zero xs ys = λ e. refl
-draws-append q (suc count) [] ys = λ e. cc
-draws-append q (suc count) (x ∷ xs) ys =
-    draws-either (λ d. d .enough ≡ true → draws q (suc count) (x ∷ (xs ++ ys)) ≡ d) q count x xs
-    (λ h e. draws-kept q count x (xs ++ ys) h ∙ ap (kept x) (draws-append q count xs ys e))
-    (λ h e. draws-dropped q count x (xs ++ ys) h ∙ ap dropped (draws-append q (suc count) xs ys e))
+  first-discarded : (d x : A) (xs : List A) (drawn : Drawn A) → passes x ≡ false → First d xs drawn → First d (x ∷ xs) (discard drawn)
+  first-discarded d x xs drawn h f =
+      record {
+        within = omega (arith, f .within);
+        value = f .value;
+        kept = f .kept;
+        dropped-before = earlier;
+      }
+    where
+      earlier : (i : ℕ) → i < suc (drawn .dropped) → passes (getD (x ∷ xs) i d) ≡ false
+      earlier zero l = h
+      earlier (suc i) l = f .dropped-before i (le-of-suc-le-suc l)
 
-abbrev pub thenDrawn : Drawn → Drawn → Drawn
-thenDrawn d e = record { values = d .values ++ e .values; groups = d .groups + e .groups; enough = d .enough && e .enough }
+  pub draws-first : (d : A) (xs : List A) → draws passes 1 xs .enough ≡ true → First d xs (draws passes 1 xs)
+  unfolding draws
+  draws-first d [] = λ e. absurd (false≢true e)
+  draws-first d (x ∷ xs) =
+      draws-either (λ r. r .enough ≡ true → First d (x ∷ xs) r) 0 x xs
+      (λ h e. record { within = omega arith; value = refl; kept = h; dropped-before = λ i l. let z : ⊥ = omega arith in absurd z })
+      (λ h e. first-discarded d x xs (draws passes 1 xs) h (draws-first d xs e))
 
-thenDrawn-kept : (x : ℕ) (d e : Drawn) → kept x (thenDrawn d e) ≡ thenDrawn (kept x d) e
-thenDrawn-kept x d e = rw (suc-add (d .groups) (e .groups))
+  -- a single draw without enough: no candidate passes
+  pub record None (d : A) (xs : List A) (drawn : Drawn A) : Type 0 where
+    pub nothing : drawn .values ≡ []
+    pub all-dropped : drawn .dropped ≡ length xs
+    pub none-pass : (i : ℕ) → i < length xs → passes (getD xs i d) ≡ false
 
-thenDrawn-dropped : (d e : Drawn) → dropped (thenDrawn d e) ≡ thenDrawn (dropped d) e
-thenDrawn-dropped d e = rw (suc-add (d .groups) (e .groups))
+  none-discarded : (d x : A) (xs : List A) (drawn : Drawn A) → passes x ≡ false → None d xs drawn → None d (x ∷ xs) (discard drawn)
+  none-discarded d x xs drawn h f =
+      record {
+        nothing = f .nothing;
+        all-dropped = ap suc (f .all-dropped);
+        none-pass = each;
+      }
+    where
+      each : (i : ℕ) → i < suc (length xs) → passes (getD (x ∷ xs) i d) ≡ false
+      each zero l = h
+      each (suc i) l = f .none-pass i (le-of-suc-le-suc l)
 
-pub draws-split : (q a b : ℕ) (xs : List ℕ) → draws q (a + b) xs ≡ thenDrawn (draws q a xs) (draws q b (drop (draws q a xs .groups) xs))
-unfolding draws
-draws-split q zero b xs = rw (zero-add b, zero-add (draws q b xs .groups))
-draws-split q (suc a) zero [] = rw (suc-add a zero)
-draws-split q (suc a) (suc b) [] = rw (suc-add a (suc b))
-draws-split q (suc a) b (x ∷ xs) =
-    draws-either (λ d. draws q (suc a + b) (x ∷ xs) ≡ thenDrawn d (draws q b (drop (d .groups) (x ∷ xs)))) q a x xs
-    (λ h. rw (suc-add a b) (draws-kept q (a + b) x xs h ∙ ap (kept x) (draws-split q a b xs) ∙ thenDrawn-kept x (draws q a xs) _))
-    (λ h. rw (suc-add a b)
-    (draws-dropped q (a + b) x xs h ∙ ap dropped (rw (suc-add a b) at (draws-split q (suc a) b xs)) ∙ thenDrawn-dropped (draws q (suc a) xs) _))
+  pub draws-none : (d : A) (xs : List A) → draws passes 1 xs .enough ≡ false → None d xs (draws passes 1 xs)
+  unfolding draws
+  draws-none d [] = λ e. record { nothing = refl; all-dropped = refl; none-pass = λ i l. let z : ⊥ = omega arith in absurd z }
+  draws-none d (x ∷ xs) =
+      draws-either (λ r. r .enough ≡ false → None d (x ∷ xs) r) 0 x xs
+      (λ h e. absurd (true≢false e))
+      (λ h e. none-discarded d x xs (draws passes 1 xs) h (draws-none d xs e))
+
+  -- ---- groups that go on, and draws part by part
+
+  pub draws-append : (count : ℕ) (xs ys : List A) → draws passes count xs .enough ≡ true → draws passes count (xs ++ ys) ≡ draws passes count xs
+  unfolding draws
+  draws-append zero xs ys = λ e. refl
+  draws-append (suc count) [] ys = λ e. cc
+  draws-append (suc count) (x ∷ xs) ys =
+      draws-either (λ d. d .enough ≡ true → draws passes (suc count) (x ∷ (xs ++ ys)) ≡ d) count x xs
+      (λ h e. draws-kept count x (xs ++ ys) h ∙ ap (keep x) (draws-append count xs ys e))
+      (λ h e. draws-dropped count x (xs ++ ys) h ∙ ap discard (draws-append (suc count) xs ys e))
+
+  -- the groups taken give the same alone
+  pub draws-taken : (count : ℕ) (xs : List A) → draws passes count (take (draws passes count xs .groups) xs) ≡ draws passes count xs
+  unfolding draws
+  draws-taken zero xs = refl
+  draws-taken (suc count) [] = refl
+  draws-taken (suc count) (x ∷ xs) =
+      draws-either (λ d. draws passes (suc count) (take (d .groups) (x ∷ xs)) ≡ d) count x xs
+      (λ h. draws-kept count x (take (draws passes count xs .groups) xs) h ∙ ap (keep x) (draws-taken count xs))
+      (λ h. draws-dropped count x (take (draws passes (suc count) xs .groups) xs) h ∙ ap discard (draws-taken (suc count) xs))
+
+abbrev pub thenDrawn : {A : Type 0} → Drawn A → Drawn A → Drawn A
+thenDrawn d e = record { values = d .values ++ e .values; groups = d .groups + e .groups; dropped = d .dropped + e .dropped; enough = d .enough && e .enough }
+
+thenDrawn-keep : {A : Type 0} (x : A) (d e : Drawn A) → keep x (thenDrawn d e) ≡ thenDrawn (keep x d) e
+thenDrawn-keep x d e = rw (suc-add (d .groups) (e .groups))
+
+thenDrawn-discard : {A : Type 0} (d e : Drawn A) → discard (thenDrawn d e) ≡ thenDrawn (discard d) e
+thenDrawn-discard d e = rw (suc-add (d .groups) (e .groups), suc-add (d .dropped) (e .dropped))
+
+module _ {A : Type 0} (passes : A → Bool) where
+  pub draws-split : (a b : ℕ) (xs : List A) → draws passes (a + b) xs ≡ thenDrawn (draws passes a xs) (draws passes b (drop (draws passes a xs .groups) xs))
+  unfolding draws
+  draws-split zero b xs = rw (zero-add b, zero-add (draws passes b xs .groups), zero-add (draws passes b xs .dropped))
+  draws-split (suc a) zero [] = rw (suc-add a zero)
+  draws-split (suc a) (suc b) [] = rw (suc-add a (suc b))
+  draws-split (suc a) b (x ∷ xs) =
+      draws-either passes (λ d. draws passes (suc a + b) (x ∷ xs) ≡ thenDrawn d (draws passes b (drop (d .groups) (x ∷ xs)))) a x xs
+      (λ h. rw (suc-add a b) (draws-kept passes (a + b) x xs h ∙ ap (keep x) (draws-split a b xs) ∙ thenDrawn-keep x (draws passes a xs) _))
+      (λ h. rw (suc-add a b)
+      (draws-dropped passes (a + b) x xs h ∙ ap discard (rw (suc-add a b) at (draws-split (suc a) b xs)) ∙ thenDrawn-discard (draws passes (suc a) xs) _))
 
 -- ---- more octets
 
@@ -128,50 +206,139 @@ div-le-div : (k : ℕ) {m n : ℕ} → m ≤ n → m / k ≤ n / k
 div-le-div zero {m} {n} h = rw (div-zero m, div-zero n) (omega arith)
 div-le-div (suc k) {m} h = le-div-iff-mul-le (zero-lt-suc k) .1 (le-trans (div-mul-le-self m (suc k)) h)
 
-pub length-candidates : (q : ℕ) (random : List ℕ) → length (candidates q random) ≡ length random / qlen q
-unfolding candidates
-length-candidates q random = length-tabulate (length random / qlen q) _
-
--- the groups of the octets given come first
-pub candidates-append : (q : ℕ) (random more : List ℕ) → take (length random / qlen q) (candidates q (random ++ more)) ≡ candidates q random
-unfolding candidates
-candidates-append q random more =
-    let longer : length random / qlen q ≤ length (random ++ more) / qlen q = div-le-div (qlen q) (omega (arith, length-append random more)) in
-    take-tabulate (length random / qlen q) (length (random ++ more) / qlen q) _ longer
-    ∙ tabulate-cong (length random / qlen q) (λ i l. ap (λ (x : ℕ). x % 2 ^ bitLength q)
-    (coefficientAt-append (qlen q) random more i (le-trans (mul-le-mul-right (qlen q) l) (div-mul-le-self (length random) (qlen q)))))
-
-pub draws-candidates-append : (q count : ℕ) (random more : List ℕ) → draws q count (candidates q random) .enough ≡ true
-    → draws q count (candidates q (random ++ more)) ≡ draws q count (candidates q random)
-draws-candidates-append q count random more e =
-    let all : List ℕ = candidates q (random ++ more) in
-    let split : candidates q random ++ drop (length random / qlen q) all ≡ all
-    = rw (candidates-append q random more) at (take-append-drop (length random / qlen q) all) in
-    ap (draws q count) (sym split) ∙ draws-append q count (candidates q random) _ e
-
--- ---- the groups of octets, one by one
-
-pub candidates-cons : (q : ℕ) (random : List ℕ) → 0 < qlen q → qlen q ≤ length random
-    → candidates q random ≡ numberOf (take (qlen q) random) % 2 ^ bitLength q ∷ candidates q (drop (qlen q) random)
-unfolding candidates tabulate
-candidates-cons q random pos h =
-    let groups : length random / qlen q ≡ suc (length (drop (qlen q) random) / qlen q)
-    = div-eq-sub-div pos h ∙ add-one _ ∙ ap (λ (x : ℕ). suc (x / qlen q)) (sym (length-drop (qlen q) random)) in
-    rw groups (ap₂ _∷_ (ap (λ (x : ℕ). x % 2 ^ bitLength q) (coefficientAt-zero (qlen q) random))
-    (tabulate-cong (length (drop (qlen q) random) / qlen q) (λ i l. ap (λ (x : ℕ). x % 2 ^ bitLength q) (coefficientAt-suc (qlen q) random i))))
-
--- an incomplete group is none
-pub candidates-short : (q : ℕ) (random : List ℕ) → length random < qlen q → candidates q random ≡ []
-unfolding candidates tabulate
-candidates-short q random h = rw (div-eq-of-lt h)
-
--- ---- the calls that draw
-
 take-append-drop-le : (a k : ℕ) (random more : List ℕ) → k + a ≤ length random → take a (drop k (random ++ more)) ≡ take a (drop k random)
 take-append-drop-le a k random more h =
     let start : k ≤ length random = omega arith in
     let full : a ≤ length (drop k random) = omega (arith, length-drop k random) in
     rw (drop-append-le k random more start, take-append-le a (drop k random) more full)
+
+module _ {A : Type 0} (len : ℕ) (read : List ℕ → A) where
+  pub length-grouped : (random : List ℕ) → length (grouped len read random) ≡ length random / len
+  unfolding grouped
+  length-grouped random = length-tabulate (length random / len) _
+
+  -- the groups of the octets given come first
+  pub grouped-append : (random more : List ℕ) → take (length random / len) (grouped len read (random ++ more)) ≡ grouped len read random
+  unfolding grouped
+  grouped-append random more =
+      let longer : length random / len ≤ length (random ++ more) / len = div-le-div len (omega (arith, length-append random more)) in
+      take-tabulate (length random / len) (length (random ++ more) / len) _ longer
+      ∙ tabulate-cong (length random / len) (λ i l. ap read (take-append-drop-le len (i * len) random more
+      (omega (arith, suc-mul i len, mul-le-mul-right len l, div-mul-le-self (length random) len))))
+
+  pub draws-grouped-append : (passes : A → Bool) (count : ℕ) (random more : List ℕ) → draws passes count (grouped len read random) .enough ≡ true
+      → draws passes count (grouped len read (random ++ more)) ≡ draws passes count (grouped len read random)
+  draws-grouped-append passes count random more e =
+      let all : List A = grouped len read (random ++ more) in
+      let split : grouped len read random ++ drop (length random / len) all ≡ all
+      = rw (grouped-append random more) at (take-append-drop (length random / len) all) in
+      ap (draws passes count) (sym split) ∙ draws-append passes count (grouped len read random) _ e
+
+  -- the groups of what was taken
+  pub grouped-take : (k : ℕ) (random : List ℕ) → 0 < len → len * k ≤ length random
+      → grouped len read (take (len * k) random) ≡ take k (grouped len read random)
+  grouped-take k random pos h =
+      let many : length (take (len * k) random) / len ≡ k
+      = ap (λ (m : ℕ). m / len) (length-take-le (len * k) random h ∙ mul-comm len k) ∙ mul-div-cancel k pos in
+      sym (grouped-append (take (len * k) random) (drop (len * k) random))
+      ∙ ap₂ (λ (m : ℕ) (octets : List ℕ). take m (grouped len read octets)) many (take-append-drop (len * k) random)
+
+  -- ---- the groups of octets, one by one
+
+  pub grouped-cons : (random : List ℕ) → 0 < len → len ≤ length random
+      → grouped len read random ≡ read (take len random) ∷ grouped len read (drop len random)
+  unfolding grouped tabulate
+  grouped-cons random pos h =
+      let groups : length random / len ≡ suc (length (drop len random) / len)
+      = div-eq-sub-div pos h ∙ add-one _ ∙ ap (λ (x : ℕ). suc (x / len)) (sym (length-drop len random)) in
+      rw groups (ap₂ _∷_ (rw (zero-mul len))
+      (tabulate-cong (length (drop len random) / len) (λ i l. ap (λ (r : List ℕ). read (take len r))
+      (let next : suc i * len ≡ len + i * len = omega (arith, suc-mul i len) in rw next (sym (drop-drop (i * len) len random))))))
+
+  -- an incomplete group is none
+  pub grouped-short : (random : List ℕ) → length random < len → grouped len read random ≡ []
+  unfolding grouped tabulate
+  grouped-short random h = rw (div-eq-of-lt h)
+
+grouped-empty : {A : Type 0} (read : List ℕ → A) (random : List ℕ) → grouped 0 read random ≡ []
+unfolding grouped tabulate
+grouped-empty read random = rw (div-zero (length random))
+
+-- the groups of what is left once so many were taken
+pub grouped-drop : {A : Type 0} (len : ℕ) (read : List ℕ → A) (k : ℕ) (random : List ℕ) → grouped len read (drop (len * k) random) ≡ drop k (grouped len read random)
+grouped-drop len read zero random = rw (mul-zero len)
+grouped-drop zero read (suc k) random = grouped-empty read _ ∙ sym (ap (drop (suc k)) (grouped-empty read random))
+grouped-drop (suc m) read (suc k) random =
+    let len : ℕ = suc m in
+    let next : len * suc k ≡ len + len * k = omega (arith, mul-suc len k) in
+    let left : drop (len * suc k) random ≡ drop (len * k) (drop len random) = rw next (sym (drop-drop (len * k) len random)) in
+    elim (decLt (length random) len) [
+      | yes short ↦
+          let ended : length (drop (len * suc k) random) < len = omega (arith, length-drop (len * suc k) random) in
+          grouped-short len read _ ended ∙ sym (ap (drop (suc k)) (grouped-short len read random short))
+      | no g ↦
+          ap (grouped len read) left ∙ grouped-drop len read k (drop len random)
+          ∙ sym (ap (drop (suc k)) (grouped-cons len read random (zero-lt-suc m) (omega arith)))
+    ]
+
+module _ {A : Type 0} (len : ℕ) (read : List ℕ → A) (passes : A → Bool) (count : ℕ) (random : List ℕ) where
+  -- the draws from the groups of octets
+  abbrev drawn : Drawn A
+  drawn = draws passes count (grouped len read random)
+
+  -- the groups taken are there
+  pub draws-grouped-within : len * drawn .groups ≤ length random
+  draws-grouped-within =
+      let taken : drawn .groups ≤ length random / len = rw (length-grouped len read random) at (draws-groups-le passes count (grouped len read random)) in
+      le-trans (mul-le-mul-left len taken) (mul-div-le (length random) len)
+
+  -- they give the same alone
+  pub draws-grouped-taken : 0 < len → draws passes count (grouped len read (take (len * drawn .groups) random)) ≡ drawn
+  draws-grouped-taken pos =
+      ap (draws passes count) (grouped-take len read (drawn .groups) random pos draws-grouped-within)
+      ∙ draws-taken passes count (grouped len read random)
+
+  -- and further draws go on after them
+  pub draws-grouped-split : (more : ℕ)
+      → draws passes (count + more) (grouped len read random) ≡ thenDrawn drawn (draws passes more (grouped len read (drop (len * drawn .groups) random)))
+  draws-grouped-split more =
+      draws-split passes count more (grouped len read random)
+      ∙ ap (λ (g : List A). thenDrawn drawn (draws passes more g)) (sym (grouped-drop len read (drawn .groups) random))
+
+-- ---- draws below q
+
+module _ (q count : ℕ) (random : List ℕ) where
+  pub drawsBelow-values : AllBelow q (drawsBelow q count random .values)
+  unfolding drawsBelow
+  drawsBelow-values k l = ltb-true _ q (draws-values-pass (λ x. ltb x q) count (grouped (qlen q) (groupNumber q) random) 0 k l)
+
+  pub drawsBelow-length : drawsBelow q count random .enough ≡ true → length (drawsBelow q count random .values) ≡ count
+  unfolding drawsBelow
+  drawsBelow-length = draws-values-length (λ x. ltb x q) count _
+
+  pub drawsBelow-groups : drawsBelow q count random .enough ≡ true → drawsBelow q count random .groups ≡ count + drawsBelow q count random .dropped
+  unfolding drawsBelow
+  drawsBelow-groups = draws-groups (λ x. ltb x q) count _
+
+  pub drawsBelow-within : octetsUsed q (drawsBelow q count random) ≤ length random
+  unfolding drawsBelow
+  drawsBelow-within = draws-grouped-within (qlen q) (groupNumber q) (λ x. ltb x q) count random
+
+  pub drawsBelow-split : (more : ℕ)
+      → drawsBelow q (count + more) random
+      ≡ thenDrawn (drawsBelow q count random) (drawsBelow q more (drop (octetsUsed q (drawsBelow q count random)) random))
+  unfolding drawsBelow
+  drawsBelow-split = draws-grouped-split (qlen q) (groupNumber q) (λ x. ltb x q) count random
+
+  pub drawsBelow-append : (more : List ℕ) → drawsBelow q count random .enough ≡ true → drawsBelow q count (random ++ more) ≡ drawsBelow q count random
+  unfolding drawsBelow
+  drawsBelow-append = draws-grouped-append (qlen q) (groupNumber q) (λ x. ltb x q) count random
+
+  pub drawsBelow-taken : 0 < qlen q → drawsBelow q count (take (octetsUsed q (drawsBelow q count random)) random) ≡ drawsBelow q count random
+  unfolding drawsBelow
+  drawsBelow-taken = draws-grouped-taken (qlen q) (groupNumber q) (λ x. ltb x q) count random
+
+-- ---- the calls that draw
 
 module _ (p : Parameters) (random more : List ℕ) where
   pub secretDrawn-append : (k : ℕ) → k + smallLength p ≤ length random
@@ -186,11 +353,11 @@ module _ (p : Parameters) (random more : List ℕ) where
 
   pub keyDraws-append : secretLength p ≤ length random → keyDraws p random .enough ≡ true → keyDraws p (random ++ more) ≡ keyDraws p random
   unfolding keyDraws
-  keyDraws-append h e = rw (drop-append-le (secretLength p) random more h) (draws-candidates-append (p .q) _ (drop (secretLength p) random) more e)
+  keyDraws-append h e = rw (drop-append-le (secretLength p) random more h) (drawsBelow-append (p .q) _ (drop (secretLength p) random) more e)
 
   pub maskDraws-append : maskDraws p random .enough ≡ true → maskDraws p (random ++ more) ≡ maskDraws p random
   unfolding maskDraws
-  maskDraws-append e = draws-candidates-append (p .q) _ random more e
+  maskDraws-append e = drawsBelow-append (p .q) _ random more e
 
   -- an accepted key generation answers the same with more random octets
   pub keygenAnswer-append : (secretLen publicLen workLen : ℕ) (k : KeyPair) → keygenAnswer p random secretLen publicLen workLen ≡ accepted k
@@ -222,22 +389,22 @@ module _ (p : Parameters) (random more : List ℕ) where
         noiseDrawn-append (start + i * smallLength p) room,
       )
 
-  pub maskLength-append : maskDraws p random .enough ≡ true → maskLength p (random ++ more) ≡ maskLength p random
-  unfolding maskLength
-  maskLength-append e = rw (maskDraws-append e)
+  pub maskUsed-append : maskDraws p random .enough ≡ true → maskUsed p (random ++ more) ≡ maskUsed p random
+  unfolding maskUsed
+  maskUsed-append e = rw (maskDraws-append e)
 
   pub encryptUsed-append : maskDraws p random .enough ≡ true → encryptUsed p (random ++ more) ≡ encryptUsed p random
   unfolding encryptUsed
-  encryptUsed-append e = rw (maskLength-append e)
+  encryptUsed-append e = rw (maskUsed-append e)
 
   ciphertext-append : (key : Polynomial) (m : Element) (r : Polynomial) → encryptUsed p random ≤ length random
-      → octetsFrom p (degree p) (encryptedWith p key m r (noiseOf p (drop (maskLength p random) (random ++ more))))
-      ≡ octetsFrom p (degree p) (encryptedWith p key m r (noiseOf p (drop (maskLength p random) random)))
+      → octetsFrom p (degree p) (encryptedWith p key m r (noiseOf p (drop (maskUsed p random) (random ++ more))))
+      ≡ octetsFrom p (degree p) (encryptedWith p key m r (noiseOf p (drop (maskUsed p random) random)))
   unfolding encryptUsed encryptedWith sumOf
   ciphertext-append key m r h =
       octetsFrom-cong p (degree p) (λ i l k s.
-      let room : maskLength p random + suc i * smallLength p ≤ length random = omega (arith, mul-le-mul-right (smallLength p) l) in
-      rw (noiseOf-append (maskLength p random) i room))
+      let room : maskUsed p random + suc i * smallLength p ≤ length random = omega (arith, mul-le-mul-right (smallLength p) l) in
+      rw (noiseOf-append (maskUsed p random) i room))
 
   -- an accepted encryption answers the same with more random octets
   pub encryptAnswer-append : (public message : List ℕ) (ciphertextLen workLen : ℕ) (c : Encrypted)
@@ -253,7 +420,7 @@ module _ (p : Parameters) (random more : List ℕ) where
       let fits : encryptUsed p random ≤ length random = ltb-false _ _ (passed .1) in
       let longer : encryptUsed p random ≤ length (random ++ more) = omega (arith, length-append random more) in
       rw (
-        maskLength-append enough,
+        maskUsed-append enough,
         encryptUsed-append enough,
         maskDraws-append enough,
         le-ltb (length (random ++ more)) (encryptUsed p random) longer,

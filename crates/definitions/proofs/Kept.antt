@@ -15,7 +15,7 @@ use Rattle.definitions.specs.Parameters.{Parameters, degree, termSum, bo
 use Rattle.definitions.specs.Ring.{Element, modulo, add, InRing}
 use Rattle.definitions.specs.Monomials.{Polynomial, polynomialOf, sumOf, value}
 use Rattle.definitions.specs.Draws.{noiseDrawn}
-use Rattle.definitions.specs.Calls.{Encrypted, smallOf, secretX, secretY, polynomialFrom, octetsFrom, maskDraws, noiseOf, encryptedWith, maskLength, sumModulo, decryptedValue, decryptedElement, decryptedFrom}
+use Rattle.definitions.specs.Calls.{Encrypted, smallOf, secretX, secretY, polynomialFrom, octetsFrom, maskDraws, noiseOf, encryptedWith, maskUsed, sumModulo, decryptedValue, decryptedElement, decryptedFrom}
 use Rattle.definitions.specs.Ledger.{Entry, entrySum}
 use Rattle.definitions.specs.Demand3.{ZeroOf, WellFormed, ZeroPastMessage, EntryHolds}
 use Rattle.definitions.proofs.Congruence.{cong-sym, cong-of-eq, cong-mod}
@@ -118,7 +118,7 @@ module _ (p : Parameters) (a : Accepted p) where
     kept-encrypted message random e told =
         let key : Polynomial = polynomialFrom p public in
         let r : Polynomial = polynomialOf (p .n) (maskDraws p random .values) in
-        let later : List ℕ = drop (maskLength p random) random in
+        let later : List ℕ = drop (maskUsed p random) random in
         kept-octets _ _ (e .ciphertext) (told .encrypted) (encryptedWith-below key (smallOf p message) r (noiseOf p later) _) (le-refl 1)
         (smallOf-tail p message (p .mlen) (told .padded))
         (λ secret zero.

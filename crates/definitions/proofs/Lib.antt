@@ -27,6 +27,8 @@ pub mod Decryption
 pub mod Zeros
 pub mod KeyTerms
 pub mod MadeKeys
+pub mod DroppedGroups
+pub mod OctetsUsed
 pub mod Kept
 pub mod Ledger
 pub mod Alike

@@ -8,16 +8,16 @@ use native.Mathlib.Nat.{mod-lt, div-add-mod, add-mod-mod, mul-mod-right}
 use native.Mathlib.Omega.{arith}
 use lib.ListN.{length, getD, take, drop}
 use Rattle.definitions.specs.Sequences.{tabulate}
-use Rattle.definitions.specs.Parameters.{Parameters, qlen, monomialCount, smallLength}
+use Rattle.definitions.specs.Parameters.{Parameters, qlen, smallLength}
 use Rattle.definitions.specs.Ring.{Element, elementOf}
 use Rattle.definitions.specs.Octets.{encoded}
 use Rattle.definitions.specs.Draws.{secretDrawn}
-use Rattle.definitions.specs.Calls.{KeyPair, keyDraws, keyConstant, keyPairOf}
+use Rattle.definitions.specs.Calls.{KeyPair, keyCoefficients, keyDraws, keyConstant, keyPairOf}
 use Rattle.definitions.specs.Demand3.{AcceptedSet, ZeroOf, InSmallRing, secretOf, MadeKeys}
 use Rattle.definitions.proofs.Sums.{length-tabulate, getD-tabulate}
 use Rattle.definitions.proofs.Parameters.{Accepted, accepted-set, modulus-positive}
 use Rattle.definitions.proofs.Octets.{AllBelow}
-use Rattle.definitions.proofs.Draws.{draws-values-below, draws-values-length}
+use Rattle.definitions.proofs.Draws.{drawsBelow-values, drawsBelow-length}
 use Rattle.definitions.proofs.Small.{unpacked-small}
 use Rattle.definitions.proofs.KeyTerms.{key-length, key-fits, key-value}
 use Rattle.definitions.proofs.Calls.{keygen-told}
@@ -29,7 +29,7 @@ negated-sum q v pos =
     rw (add-mod-mod, whole, mul-mod-right)
 
 module _ (p : Parameters) (set : AcceptedSet p) (ux uy others : List ℕ) (hx : InSmallRing p ux) (hy : InSmallRing p uy)
-    (sized : length others ≡ (monomialCount (p .dx) - 1) * p .n) (below : AllBelow (p .q) others) where
+    (sized : length others ≡ keyCoefficients p) (below : AllBelow (p .q) others) where
   abbrev constant : Element
   constant = keyConstant p others (elementOf ux) (elementOf uy)
 
@@ -50,13 +50,13 @@ module _ (p : Parameters) (set : AcceptedSet p) (ux uy others : List ℕ) (hx : 
       (λ k l. rw (key-value p others _ sized long a below constant-below (elementOf ux) (elementOf uy) k l, constant-at k l)
       (negated-sum (p .q) _ (modulus-positive p a)))
 
-drawn-length : (p : Parameters) (random : List ℕ) → keyDraws p random .enough ≡ true → length (keyDraws p random .values) ≡ (monomialCount (p .dx) - 1) * p .n
+drawn-length : (p : Parameters) (random : List ℕ) → keyDraws p random .enough ≡ true → length (keyDraws p random .values) ≡ keyCoefficients p
 unfolding keyDraws
-drawn-length p random enough = draws-values-length (p .q) ((monomialCount (p .dx) - 1) * p .n) _ enough
+drawn-length p random enough = drawsBelow-length (p .q) (keyCoefficients p) _ enough
 
 pub keyDraws-below : (p : Parameters) (random : List ℕ) → AllBelow (p .q) (keyDraws p random .values)
 unfolding keyDraws
-keyDraws-below p random = draws-values-below (p .q) ((monomialCount (p .dx) - 1) * p .n) _
+keyDraws-below p random = drawsBelow-values (p .q) (keyCoefficients p) _
 
 drawn-small : (p : Parameters) → Accepted p → (random : List ℕ) → InSmallRing p (secretDrawn p random)
 unfolding secretDrawn

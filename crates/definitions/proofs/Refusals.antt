@@ -74,6 +74,11 @@ answerOf-only zero zero a b e = (refl, refl, cc)
 answerOf-only zero (suc k) a b e = let z : _≡_ {A = ℕ} 0 1 = cc in let w : ⊥ = omega arith in absurd w
 answerOf-only (suc m) k a b e = let z : _≡_ {A = ℕ} 0 1 = cc in let w : ⊥ = omega arith in absurd w
 
+answerOf-success : {A : Type 0} (m k : ℕ) (a : A) → number (answerOf m k a) ≡ 0 → answerOf m k a ≡ accepted a
+answerOf-success zero zero a e = refl
+answerOf-success zero (suc k) a e = let z : ⊥ = omega arith in absurd z
+answerOf-success (suc m) k a e = let z : ⊥ = omega arith in absurd z
+
 module _ {A : Type 0} (first later : List Test) (a : A) where
   pub answer-accepted : firstRefusal first ≡ 0 → firstRefusal later ≡ 0 → answer first later a ≡ accepted a
   unfolding answer
@@ -95,6 +100,11 @@ module _ {A : Type 0} (first later : List Test) (a : A) where
   pub answer-accepted-only : (b : A) → answer first later a ≡ accepted b → (firstRefusal first ≡ 0) × (firstRefusal later ≡ 0) × (a ≡ b)
   unfolding answer
   answer-accepted-only b e = answerOf-only (firstRefusal first) (firstRefusal later) a b e
+
+  -- 0 is success
+  pub answer-success : number (answer first later a) ≡ 0 → answer first later a ≡ accepted a
+  unfolding answer
+  answer-success = answerOf-success (firstRefusal first) (firstRefusal later) a
 
   -- the number is that of the first test that applies, of both lists in order
   pub number-answer : Numbered first → number (answer first later a) ≡ firstRefusal (first ++ later)

@@ -1,4 +1,5 @@
--- 01, "Draws from lent random octets" (keys, sealing, opening, adding, zero test) with "Refusal table": the answer of every call of 01.
+-- 01, "Draws from lent random octets" (keys, sealing, opening, adding, zero test) with "Refusal table", and 02, Q-1: the answer of every call
+-- of 01.
 --
 --   01's form is a ciphertext; its r is the mask here and its e the noise.
 --
@@ -12,9 +13,13 @@
 --   elementsFit      whether each of so many elements' coefficients is below q
 --   lengthTests      the tests up to the length test
 --   keysExact        whether both keys and the work words have their exact lengths;  encryptExact, addExact, decryptExact: the buffers of each
---   keyDraws         the elements drawn for a key;  keyConstant, keyPairOf: its constant, and the octets of both keys
---   maskDraws        the elements drawn for r;  noiseOf: those of e;  encryptedWith: m + X × r + ℓ × e
---   decryptedValue   w;  decryptedElement: w modulo ℓ;  tailClear: the tail test;  messageOf: the octets of a message
+--   KeyPair          what key generation gives: both keys, the octets used and the groups dropped;  Encrypted: what encryption gives
+--   keyCoefficients  how many coefficients are drawn for a key;  keyDraws: these draws;  keyConstant: the key's constant;  keyPairOf: all of it
+--   maskCoefficients how many are drawn for r;  maskDraws: these draws;  maskUsed: the octets that they used, dropped groups included;  encryptUsed:
+--                    these and the octets of e
+--   noiseOf          the elements of e;  encryptedWith: m + X × r + ℓ × e
+--   isZeroAt         whether a key's value at a pair is 0 in R_q;  sumModulo: the sum of two polynomials over R_q
+--   decryptedValue   w;  decryptedElement: w modulo ℓ;  decryptedFrom: it from octets;  tailClear: the tail test;  messageOf: the octets of a message
 --   ..Tests          the tests after the length test, in the order of Order.antt
 --   ..Answer         keygenAnswer (01: key making), isZeroAnswer (zero test), encryptAnswer (sealing), addAnswer (adding),
 --                    decryptAnswer (opening): the answer, from the octets given and the lengths of the buffers lent
@@ -34,7 +39,7 @@ use Rattle.definitions.specs.Parameters.{Parameters, degree, smallBits, 
 use Rattle.definitions.specs.Ring.{Element, elementOf, modulo, scale}
 use Rattle.definitions.specs.Monomials.{Polynomial, polynomialOf, coefficientsOf, constantTerm, sumOf, productOf, valueOver, value}
 use Rattle.definitions.specs.Octets.{coefficientAt, decoded, encoded, coefficientsFit, unpacked, packed, paddingClear}
-use Rattle.definitions.specs.Draws.{Drawn, candidates, draws, secretDrawn, noiseDrawn}
+use Rattle.definitions.specs.Draws.{Drawn, drawsBelow, octetsUsed, secretDrawn, noiseDrawn}
 
 -- ---- octets to ring elements and back
 
@@ -95,22 +100,27 @@ pub record KeyPair : Type 0 where
   pub secret : List ℕ
   pub public : List ℕ
   pub used : ℕ
+  pub droppedGroups : ℕ
 
--- the elements drawn after u_x and u_y: all but the constant
-unfoldable pub keyDraws : Parameters → List ℕ → Drawn
-keyDraws p random = draws (p .q) ((monomialCount (p .dx) - 1) * p .n) (candidates (p .q) (drop (secretLength p) random))
+-- how many coefficients are drawn after u_x and u_y: those of all elements but the constant
+abbrev pub keyCoefficients : Parameters → ℕ
+keyCoefficients p = (monomialCount (p .dx) - 1) * p .n
+
+unfoldable pub keyDraws : Parameters → List ℕ → Drawn ℕ
+keyDraws p random = drawsBelow (p .q) (keyCoefficients p) (drop (secretLength p) random)
 
 -- minus the sum of a_ij × u_x^i × u_y^j over the others
 unfoldable pub keyConstant : Parameters → List ℕ → Element → Element → Element
 keyConstant p others ux uy k =
     (p .q - valueOver (monomialCount (p .dx) - 1) (p .n) (p .dx) (polynomialOf (p .n) others) ux uy k % p .q) % p .q
 
-unfoldable pub keyPairOf : Parameters → List ℕ → List ℕ → Drawn → KeyPair
+unfoldable pub keyPairOf : Parameters → List ℕ → List ℕ → Drawn ℕ → KeyPair
 keyPairOf p ux uy others =
     record {
       secret = packed (smallBits (p .l)) (smallLength p) ux ++ packed (smallBits (p .l)) (smallLength p) uy;
       public = encoded (qlen (p .q)) (others .values ++ tabulate (p .n) (keyConstant p (others .values) (elementOf ux) (elementOf uy)));
-      used = secretLength p + qlen (p .q) * others .groups;
+      used = secretLength p + octetsUsed (p .q) others;
+      droppedGroups = others .dropped;
     }
 
 abbrev pub keygenTests : Parameters → List ℕ → List Test
@@ -144,10 +154,14 @@ isZeroAnswer p secret public workLen =
 pub record Encrypted : Type 0 where
   pub ciphertext : List ℕ
   pub used : ℕ
+  pub droppedGroups : ℕ
 
--- the elements of r
-unfoldable pub maskDraws : Parameters → List ℕ → Drawn
-maskDraws p random = draws (p .q) (monomialCount (p .dr) * p .n) (candidates (p .q) random)
+-- how many coefficients are drawn for r
+abbrev pub maskCoefficients : Parameters → ℕ
+maskCoefficients p = monomialCount (p .dr) * p .n
+
+unfoldable pub maskDraws : Parameters → List ℕ → Drawn ℕ
+maskDraws p random = drawsBelow (p .q) (maskCoefficients p) random
 
 -- the small elements of e, from the octets after r
 unfoldable pub noiseOf : Parameters → List ℕ → Polynomial
@@ -159,11 +173,11 @@ encryptedWith p key m r e i =
     modulo (p .q)
     (sumOf (sumOf (constantTerm (degree p) m) (productOf (p .n) (p .dx) (p .dr) key r)) (λ j. scale (p .l) (e j)) i)
 
-unfoldable pub maskLength : Parameters → List ℕ → ℕ
-maskLength p random = qlen (p .q) * maskDraws p random .groups
+unfoldable pub maskUsed : Parameters → List ℕ → ℕ
+maskUsed p random = octetsUsed (p .q) (maskDraws p random)
 
 unfoldable pub encryptUsed : Parameters → List ℕ → ℕ
-encryptUsed p random = maskLength p random + monomialCount (degree p) * smallLength p
+encryptUsed p random = maskUsed p random + monomialCount (degree p) * smallLength p
 
 abbrev pub encryptTests : Parameters → List ℕ → List ℕ → List ℕ → List Test
 encryptTests p public message random =
@@ -181,8 +195,9 @@ encryptAnswer p public message random ciphertextLen workLen =
       ciphertext =
           octetsFrom p (degree p)
           (encryptedWith p (polynomialFrom p public) (smallOf p message) (polynomialOf (p .n) (maskDraws p random .values))
-          (noiseOf p (drop (maskLength p random) random)));
+          (noiseOf p (drop (maskUsed p random) random)));
       used = encryptUsed p random;
+      droppedGroups = maskDraws p random .dropped;
     })
 
 -- ---- addition (01: adding)
@@ -242,21 +257,23 @@ pub record KeygenExit : Type 0 where
   pub secret : List ℕ
   pub public : List ℕ
   pub used : ℕ
+  pub droppedGroups : ℕ
   pub work : List ℕ
 
-abbrev pub keygenLeaves : Answer KeyPair → List ℕ → List ℕ → ℕ → List ℕ → KeygenExit
-keygenLeaves a secret public used work =
+abbrev pub keygenLeaves : Answer KeyPair → List ℕ → List ℕ → ℕ → ℕ → List ℕ → KeygenExit
+keygenLeaves a secret public used droppedGroups work =
     record {
       refusal = number a;
       secret = output (λ k. k .secret) a secret;
       public = output (λ k. k .public) a public;
       used = output (λ k. k .used) a used;
+      droppedGroups = output (λ k. k .droppedGroups) a droppedGroups;
       work = workAtExit a work;
     }
 
-unfoldable pub keygenExit : Parameters → List ℕ → List ℕ → List ℕ → ℕ → List ℕ → KeygenExit
-keygenExit p random secret public used work =
-    keygenLeaves (keygenAnswer p random (length secret) (length public) (length work)) secret public used work
+unfoldable pub keygenExit : Parameters → List ℕ → List ℕ → List ℕ → ℕ → ℕ → List ℕ → KeygenExit
+keygenExit p random secret public used droppedGroups work =
+    keygenLeaves (keygenAnswer p random (length secret) (length public) (length work)) secret public used droppedGroups work
 
 pub record IsZeroExit : Type 0 where
   pub refusal : ℕ
@@ -273,20 +290,22 @@ pub record EncryptExit : Type 0 where
   pub refusal : ℕ
   pub ciphertext : List ℕ
   pub used : ℕ
+  pub droppedGroups : ℕ
   pub work : List ℕ
 
-abbrev pub encryptLeaves : Answer Encrypted → List ℕ → ℕ → List ℕ → EncryptExit
-encryptLeaves a ciphertext used work =
+abbrev pub encryptLeaves : Answer Encrypted → List ℕ → ℕ → ℕ → List ℕ → EncryptExit
+encryptLeaves a ciphertext used droppedGroups work =
     record {
       refusal = number a;
       ciphertext = output (λ e. e .ciphertext) a ciphertext;
       used = output (λ e. e .used) a used;
+      droppedGroups = output (λ e. e .droppedGroups) a droppedGroups;
       work = workAtExit a work;
     }
 
-unfoldable pub encryptExit : Parameters → List ℕ → List ℕ → List ℕ → List ℕ → ℕ → List ℕ → EncryptExit
-encryptExit p public message random ciphertext used work =
-    encryptLeaves (encryptAnswer p public message random (length ciphertext) (length work)) ciphertext used work
+unfoldable pub encryptExit : Parameters → List ℕ → List ℕ → List ℕ → List ℕ → ℕ → ℕ → List ℕ → EncryptExit
+encryptExit p public message random ciphertext used droppedGroups work =
+    encryptLeaves (encryptAnswer p public message random (length ciphertext) (length work)) ciphertext used droppedGroups work
 
 pub record AddExit : Type 0 where
   pub refusal : ℕ

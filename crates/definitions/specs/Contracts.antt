@@ -51,11 +51,11 @@ Measures p secret public message ciphertext work r =
     (lengthsExit p
     (record { secret = before secret; public = before public; message = before message; ciphertext = before ciphertext; work = before work }))
 
-abbrev pub Makes : Parameters → Buffer → Buffer → Buffer → Buffer → Cell → ℕ → Type 0
-Makes p random secret public work used r =
+abbrev pub Makes : Parameters → Buffer → Buffer → Buffer → Buffer → Cell → Cell → ℕ → Type 0
+Makes p random secret public work used droppedGroups r =
     _≡_ {A = KeygenExit}
-    (record { refusal = r; secret = after secret; public = after public; used = after used; work = after work })
-    (keygenExit p (before random) (before secret) (before public) (before used) (before work))
+    (record { refusal = r; secret = after secret; public = after public; used = after used; droppedGroups = after droppedGroups; work = after work })
+    (keygenExit p (before random) (before secret) (before public) (before used) (before droppedGroups) (before work))
 
 abbrev pub TellsZero : Parameters → Buffer → Buffer → Buffer → Cell → ℕ → Type 0
 TellsZero p secret public work zero r =
@@ -63,11 +63,11 @@ TellsZero p secret public work zero r =
     (record { refusal = r; zero = after zero; work = after work })
     (isZeroExit p (before secret) (before public) (before zero) (before work))
 
-abbrev pub Encrypts : Parameters → Buffer → Buffer → Buffer → Buffer → Buffer → Cell → ℕ → Type 0
-Encrypts p public message random ciphertext work used r =
+abbrev pub Encrypts : Parameters → Buffer → Buffer → Buffer → Buffer → Buffer → Cell → Cell → ℕ → Type 0
+Encrypts p public message random ciphertext work used droppedGroups r =
     _≡_ {A = EncryptExit}
-    (record { refusal = r; ciphertext = after ciphertext; used = after used; work = after work })
-    (encryptExit p (before public) (before message) (before random) (before ciphertext) (before used) (before work))
+    (record { refusal = r; ciphertext = after ciphertext; used = after used; droppedGroups = after droppedGroups; work = after work })
+    (encryptExit p (before public) (before message) (before random) (before ciphertext) (before used) (before droppedGroups) (before work))
 
 abbrev pub Adds : Parameters → Buffer → Buffer → Buffer → ℕ → Type 0
 Adds p a b sum r = _≡_ {A = AddExit} (record { refusal = r; sum = after sum }) (addExit p (before a) (before b) (before sum))

@@ -1,38 +1,56 @@
--- 01, "Draws from lent random octets": what is drawn, and how many octets that takes.
+-- 01, "Draws from lent random octets", with 02, Q-1: what is drawn, how many octets that takes, and how many groups are dropped.
 --
---   candidates       each complete group of qlen octets as a number, reduced modulo 2 to the bit length of q
---   Drawn            the numbers kept, the groups taken for them (dropped ones with them), and whether they were enough
---   draws            so many draws below q: a group of q or more is dropped and the next is taken
+--   grouped          each complete group of so many octets, read by a rule
+--   Drawn            the values kept, the groups taken (dropped ones with them, also those of a draw left unfinished), how many of these were
+--                    dropped, and whether they were enough;  keep, discard: one group more in front, that is kept or dropped
+--   draws            so many draws from candidates of any type, here groups read as numbers: one that does not pass a test is dropped and the
+--                    next is taken; where the candidates end first they were not enough
+--   groupNumber      a group as a number, reduced modulo 2 to the bit length of q
+--   drawsBelow       so many draws below q, from groups of qlen octets
+--   drawBelow        a single one;  octetsUsed: the octets that draws below q used
 --   secretDrawn      a secret element drawn from the front of octets; its unused top bits are ignored
 --   noiseDrawn       a noise element, in the same way
 -- Assumes nothing.
-use Prim.Native.Nat.{ℕ, zero, suc, _/_, _%_, _^_}
+use Prim.Native.Nat.{ℕ, zero, suc, _*_, _/_, _%_, _^_}
 use mathlib.Core.Bool.{Bool, true, false, cond}
 use mathlib.Core.List.{List, [], _∷_}
 use lib.Dec.{ltb}
-use lib.ListN.{length, take}
+use lib.ListN.{length, take, drop}
 use Rattle.definitions.specs.Sequences.{tabulate}
 use Rattle.definitions.specs.Parameters.{Parameters, smallBits, smallLength, bitLength, qlen}
-use Rattle.definitions.specs.Octets.{coefficientAt, unpacked}
+use Rattle.definitions.specs.Octets.{numberOf, unpacked}
 
-unfoldable pub candidates : ℕ → List ℕ → List ℕ
-candidates q random = tabulate (length random / qlen q) (λ i. coefficientAt (qlen q) random i % 2 ^ bitLength q)
+unfoldable pub grouped : {A : Type 0} → ℕ → (List ℕ → A) → List ℕ → List A
+grouped len read octets = tabulate (length octets / len) (λ i. read (take len (drop (i * len) octets)))
 
-pub record Drawn : Type 0 where
-  pub values : List ℕ
+pub record Drawn (A : Type 0) : Type 0 where
+  pub values : List A
   pub groups : ℕ
+  pub dropped : ℕ
   pub enough : Bool
 
-abbrev pub kept : ℕ → Drawn → Drawn
-kept x rest = record { values = x ∷ rest .values; groups = suc (rest .groups); enough = rest .enough }
+abbrev pub keep : {A : Type 0} → A → Drawn A → Drawn A
+keep x rest = record { values = x ∷ rest .values; groups = suc (rest .groups); dropped = rest .dropped; enough = rest .enough }
 
-abbrev pub dropped : Drawn → Drawn
-dropped rest = record { values = rest .values; groups = suc (rest .groups); enough = rest .enough }
+abbrev pub discard : {A : Type 0} → Drawn A → Drawn A
+discard rest = record { values = rest .values; groups = suc (rest .groups); dropped = suc (rest .dropped); enough = rest .enough }
 
-unfoldable pub draws : ℕ → ℕ → List ℕ → Drawn
-draws q zero candidates = record { values = []; groups = 0; enough = true }
-draws q (suc count) [] = record { values = []; groups = 0; enough = false }
-draws q (suc count) (x ∷ later) = cond (ltb x q) (kept x (draws q count later)) (dropped (draws q (suc count) later))
+unfoldable pub draws : {A : Type 0} → (A → Bool) → ℕ → List A → Drawn A
+draws passes zero candidates = record { values = []; groups = 0; dropped = 0; enough = true }
+draws passes (suc count) [] = record { values = []; groups = 0; dropped = 0; enough = false }
+draws passes (suc count) (x ∷ later) = cond (passes x) (keep x (draws passes count later)) (discard (draws passes (suc count) later))
+
+abbrev pub groupNumber : ℕ → List ℕ → ℕ
+groupNumber q group = numberOf group % 2 ^ bitLength q
+
+unfoldable pub drawsBelow : ℕ → ℕ → List ℕ → Drawn ℕ
+drawsBelow q count random = draws (λ x. ltb x q) count (grouped (qlen q) (groupNumber q) random)
+
+abbrev pub drawBelow : ℕ → List ℕ → Drawn ℕ
+drawBelow q random = drawsBelow q 1 random
+
+abbrev pub octetsUsed : ℕ → Drawn ℕ → ℕ
+octetsUsed q drawn = qlen q * drawn .groups
 
 unfoldable pub secretDrawn : Parameters → List ℕ → List ℕ
 secretDrawn p random = unpacked (smallBits (p .l)) (p .n) (take (smallLength p) random)

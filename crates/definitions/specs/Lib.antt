@@ -16,5 +16,7 @@ pub mod Order
 pub mod Demand3
 pub mod Corollaries
 pub mod WorkedCases
+pub mod DroppedGroups
+pub mod OctetsUsed
 pub mod MultiplyAddHolds
 pub mod Witness

@@ -1,7 +1,7 @@
--- A run of draws under way is right when the whole run is what it has kept and taken, followed by the run of what is left: a group
+-- A run of draws under way is right when the whole run is what it has kept, taken and dropped, followed by the run of what is left: a group
 -- of q or more moves one group on, a kept one a word too, and the run ends where no word or no group is left.
 --
---   onward           what is kept and how many groups are taken, then the rest of the run
+--   onward           what is kept, how many groups are taken and how many of them dropped, then the rest of the run
 --   Going            a run from start that has filled i words and stands at a place of the octets
 -- Assumes nothing.
 use Prim.Native.Nat.{ℕ, suc, _+_, _-_, _^_, _≤_, _<_, zero-le}
@@ -17,46 +17,53 @@ use lib.Bits.{bitAnd, and-mask}
 use Rattle.definitions.specs.Refusals.{firstRefusal, refuse, refused, accepted, answer}
 use Rattle.definitions.specs.Parameters.{bitLength, qlen}
 use Rattle.definitions.specs.Octets.{numberOf}
-use Rattle.definitions.specs.Draws.{Drawn, kept, dropped, draws}
+use Rattle.definitions.specs.Draws.{Drawn, keep, discard, draws, drawsBelow}
 use Rattle.definitions.proofs.Parameters.{qlen-least, qlen-most}
 use Rattle.draws.proofs.Groups.{groupAt, drawsAt, drawsAt-kept, drawsAt-dropped, drawsAt-ended}
 use Rattle.draws.specs.declared.Run.{Run}
 use Rattle.draws.specs.declared.Run.the-variants.{Complete, Exhausted}
 use Rattle.draws.specs.Runs.{said, drawnAnswer}
 
-abbrev pub onward : List ℕ → ℕ → Drawn → Drawn
-onward values groups rest = record { values = values ++ rest .values; groups = groups + rest .groups; enough = rest .enough }
+abbrev pub onward : List ℕ → ℕ → ℕ → Drawn ℕ → Drawn ℕ
+onward values groups dropped rest =
+    record { values = values ++ rest .values; groups = groups + rest .groups; dropped = dropped + rest .dropped; enough = rest .enough }
 
-onward-kept : (values : List ℕ) (groups x : ℕ) (d : Drawn) → onward values groups (kept x d) ≡ onward (values ++ (x ∷ [])) (groups + 1) d
-onward-kept values groups x d =
+onward-kept : (values : List ℕ) (groups dropped x : ℕ) (d : Drawn ℕ)
+    → onward values groups dropped (keep x d) ≡ onward (values ++ (x ∷ [])) (groups + 1) dropped d
+onward-kept values groups dropped x d =
     let moved : groups + suc (d .groups) ≡ groups + 1 + d .groups = omega arith in
     rw (append-assoc, moved)
 
-onward-dropped : (values : List ℕ) (groups : ℕ) (d : Drawn) → onward values groups (dropped d) ≡ onward values (groups + 1) d
-onward-dropped values groups d = let moved : groups + suc (d .groups) ≡ groups + 1 + d .groups = omega arith in rw moved
+onward-dropped : (values : List ℕ) (groups dropped : ℕ) (d : Drawn ℕ) → onward values groups dropped (discard d) ≡ onward values (groups + 1) (dropped + 1) d
+onward-dropped values groups dropped d =
+    let moved : groups + suc (d .groups) ≡ groups + 1 + d .groups = omega arith in
+    let more : dropped + suc (d .dropped) ≡ dropped + 1 + d .dropped = omega arith in
+    rw (moved, more)
 
-pub record Going (q : ℕ) (random : List ℕ) (start : ℕ) (words : List ℕ) (i at groups : ℕ) : Type 0 where
+pub record Going (q : ℕ) (random : List ℕ) (start : ℕ) (words : List ℕ) (i at groups dropped : ℕ) : Type 0 where
   pub least : 0 < qlen q
   pub most : qlen q ≤ 4
   pub within : at ≤ length random
   pub counted : groups ≤ at
-  pub whole : drawsAt q random (length words) start ≡ onward (take i words) groups (drawsAt q random (length words - i) at)
+  pub fewer : dropped ≤ groups
+  pub whole : drawsAt q random (length words) start ≡ onward (take i words) groups dropped (drawsAt q random (length words - i) at)
 
 pub going-start : (q : ℕ) (random : List ℕ) (start : ℕ) (words : List ℕ) → 0 < q → q < 2 ^ 32 → start ≤ length random
-    → Going q random start words 0 start 0
+    → Going q random start words 0 start 0 0
 going-start q random start words pos fits h =
     record {
       least = qlen-least q pos fits;
       most = qlen-most q;
       within = h;
       counted = zero-le;
-      whole = rw (sub-zero, zero-add);
+      fewer = zero-le;
+      whole = rw (sub-zero, zero-add, zero-add);
     }
 
 one-less : {i n : ℕ} → i < n → n - i ≡ suc (n - (i + 1))
 one-less h = omega arith
 
-module _ {q : ℕ} {random : List ℕ} {start : ℕ} {words : List ℕ} {i at groups : ℕ} (going : Going q random start words i at groups) where
+module _ {q : ℕ} {random : List ℕ} {start : ℕ} {words : List ℕ} {i at groups dropped : ℕ} (going : Going q random start words i at groups dropped) where
   -- what is read there and masked, with as many ones as q has bits
   module _ {width mask x : ℕ} (w : width ≡ qlen q) (m : mask ≡ 2 ^ bitLength q - 1) (e : x ≡ numberOf (take width (drop at random)))
       (inside : i < length words) (fits : at + width ≤ length random)
@@ -64,66 +71,69 @@ module _ {q : ℕ} {random : List ℕ} {start : ℕ} {words : List ℕ} {i at gr
       group : bitAnd x mask ≡ groupAt q random at
       group = rw (m, and-mask, e, w)
 
-      pub going-kept : bitAnd x mask < q → Going q random start (set words i (bitAnd x mask)) (i + 1) (at + width) (groups + 1)
+      pub going-kept : bitAnd x mask < q → Going q random start (set words i (bitAnd x mask)) (i + 1) (at + width) (groups + 1) dropped
       going-kept below =
           let rest = drawsAt q random (length words - (i + 1)) (at + width) in
           let filled : take (i + 1) (set words i (bitAnd x mask)) ≡ take i words ++ (bitAnd x mask ∷ []) = rw (add-one i) (take-suc-set words i _ inside) in
-          let step : drawsAt q random (length words - i) at ≡ kept (bitAnd x mask) rest =
+          let step : drawsAt q random (length words - i) at ≡ keep (bitAnd x mask) rest =
           rw (one-less inside, group, w) (drawsAt-kept q random at (length words - (i + 1)) (going .least) (rw w at fits) (rw group at below)) in
           record {
             least = going .least;
             most = going .most;
             within = fits;
             counted = omega arith;
-            whole = rw (length-set, filled) (rw step at (going .whole) ∙ onward-kept (take i words) groups (bitAnd x mask) rest);
+            fewer = omega (arith, going .fewer);
+            whole = rw (length-set, filled) (rw step at (going .whole) ∙ onward-kept (take i words) groups dropped (bitAnd x mask) rest);
           }
 
-      pub going-dropped : q ≤ bitAnd x mask → Going q random start words i (at + width) (groups + 1)
+      pub going-dropped : q ≤ bitAnd x mask → Going q random start words i (at + width) (groups + 1) (dropped + 1)
       going-dropped above =
           let rest = drawsAt q random (length words - i) (at + width) in
-          let step : drawsAt q random (length words - i) at ≡ dropped rest =
+          let step : drawsAt q random (length words - i) at ≡ discard rest =
           rw (one-less inside, w) (drawsAt-dropped q random at (length words - (i + 1)) (going .least) (rw w at fits) (rw group at above)) in
           record {
             least = going .least;
             most = going .most;
             within = fits;
             counted = omega arith;
-            whole = rw step at (going .whole) ∙ onward-dropped (take i words) groups rest;
+            fewer = omega (arith, going .fewer);
+            whole = rw step at (going .whole) ∙ onward-dropped (take i words) groups dropped rest;
           }
 
   pub going-exhausted : {n : ℕ} → length words ≡ n → i < length words → length random - at < qlen q → refused 9 ≡ drawnAnswer (drawsAt q random n start)
   unfolding drawnAnswer answer firstRefusal
   going-exhausted same inside short =
       let ended : drawsAt q random (length words) start .enough ≡ false =
-      ap (λ (d : Drawn). d .enough) (going .whole) ∙ rw (one-less inside) (drawsAt-ended q random at (length words - (i + 1)) short) in
+      ap (λ (d : Drawn ℕ). d .enough) (going .whole) ∙ rw (one-less inside) (drawsAt-ended q random at (length words - (i + 1)) short) in
       rw (← same, ended)
 
-  pub going-complete : {n g : ℕ} → length words ≡ n → length words ≤ i → g ≡ groups
-      → accepted (record { values = words; groups = g; enough = true }) ≡ drawnAnswer (drawsAt q random n start)
-  unfolding drawnAnswer answer firstRefusal draws
-  going-complete same done e =
+  pub going-complete : {n g d : ℕ} → length words ≡ n → length words ≤ i → g ≡ groups → d ≡ dropped
+      → accepted (record { values = words; groups = g; dropped = d; enough = true }) ≡ drawnAnswer (drawsAt q random n start)
+  unfolding drawnAnswer answer firstRefusal drawsBelow draws
+  going-complete same done e f =
       let none : length words - i ≡ 0 = omega arith in
-      let whole : drawsAt q random (length words) start ≡ record { values = words; groups = groups; enough = true } =
-      going .whole ∙ rw (none, take-all i words done, append-nil, add-zero) in
-      rw (← same, whole, e)
+      let whole : drawsAt q random (length words) start ≡ record { values = words; groups = groups; dropped = dropped; enough = true } =
+      going .whole ∙ rw (none, take-all i words done, append-nil, add-zero, add-zero) in
+      rw (← same, whole, e, f)
 
 -- ---- what an answer tells a caller
 
-complete-told : (enough : Bool) (d e : Drawn) → accepted e ≡ answer [] (refuse 9 (not enough) ∷ []) d → d ≡ e
+complete-told : (enough : Bool) (d e : Drawn ℕ) → accepted e ≡ answer [] (refuse 9 (not enough) ∷ []) d → d ≡ e
 unfolding answer firstRefusal
 complete-told true d e h = cc
 complete-told false d e h = cc
 
-exhausted-told : (enough : Bool) (d : Drawn) → refused 9 ≡ answer [] (refuse 9 (not enough) ∷ []) d → enough ≡ false
+exhausted-told : (enough : Bool) (d : Drawn ℕ) → refused 9 ≡ answer [] (refuse 9 (not enough) ∷ []) d → enough ≡ false
 unfolding answer firstRefusal
 exhausted-told true d h = cc
 exhausted-told false d h = refl
 
-pub said-complete : (d : Drawn) (words : List ℕ) {run : Run} {groups : ℕ} → run ≡ Complete groups → said run words ≡ drawnAnswer d
-    → d ≡ record { values = words; groups = groups; enough = true }
+pub said-complete : (d : Drawn ℕ) (words : List ℕ) {run : Run} {groups dropped : ℕ} → run ≡ Complete groups dropped → said run words ≡ drawnAnswer d
+    → d ≡ record { values = words; groups = groups; dropped = dropped; enough = true }
 unfolding drawnAnswer
-said-complete d words {groups = groups} e told = complete-told (d .enough) d (record { values = words; groups = groups; enough = true }) (rw e at told)
+said-complete d words {groups = groups} {dropped} e told =
+    complete-told (d .enough) d (record { values = words; groups = groups; dropped = dropped; enough = true }) (rw e at told)
 
-pub said-exhausted : (d : Drawn) (words : List ℕ) {run : Run} → run ≡ Exhausted → said run words ≡ drawnAnswer d → d .enough ≡ false
+pub said-exhausted : (d : Drawn ℕ) (words : List ℕ) {run : Run} → run ≡ Exhausted → said run words ≡ drawnAnswer d → d .enough ≡ false
 unfolding drawnAnswer
 said-exhausted d words e told = exhausted-told (d .enough) d (rw e at told)

@@ -1,4 +1,4 @@
-// Draws from random octets (01, "Draws from lent random octets"): numbers below q, and small elements.
+// Draws from random octets (01, "Draws from lent random octets", and 02, Q-1): numbers below q, and small elements.
 // A run of draws is refused where the octets end before its last draw is complete. The contracts cite definitions/specs/Draws.antt.
 use parameters::Parameters;
 ghost use mathlib.Core.Path.{_≡_};
@@ -7,12 +7,12 @@ ghost use lib.ListN.{length, take, drop};
 ghost use Rattle.definitions.specs.Parameters.{bitLength, smallBits, smallLength};
 ghost use Rattle.definitions.specs.Octets.{unpacked};
 ghost use Rattle.parameters.specs.Answers.{setFrom};
-ghost use Rattle.definitions.specs.Draws.{candidates, draws, secretDrawn, noiseDrawn};
+ghost use Rattle.definitions.specs.Draws.{drawsBelow, secretDrawn, noiseDrawn};
 ghost use Rattle.draws.specs.Runs.{said, drawnAnswer};
 
-// What a run of draws below q answers: the groups that it took, or that the octets ended.
+// What a run of draws below q answers: the groups that it took and how many of them it dropped, or that the octets ended.
 pub enum Run {
-    Complete(usize),
+    Complete(usize, usize),
     Exhausted,
 }
 
@@ -24,15 +24,17 @@ fn group_mask(q: u32) -> u32
     (1u32 << lengths::bit_length(q)) - 1
 }
 
-// As many draws below q as there are words, from the octets at a place on: a group of q or more is dropped and the next is taken.
+// As many draws below q as there are words, from the octets at a place on: a group of q or more is dropped and the next is taken. With one
+// word it is a single draw. Where the octets end first, the words may hold anything.
 pub fn draw_below(random: &[u8], start: usize, q: u32, words: &mut [u32]) -> Run
     requires { ⌜ (start ≤ length (now random)) × (0 < q) × (q < 2 ^ 31) ⌝ }
-    ensures { λ r. ⌜ said r (now (words .exit)) ≡ drawnAnswer (draws q (length (now (words .entry))) (candidates q (drop start (now (random .entry))))) ⌝ }
+    ensures { λ r. ⌜ said r (now (words .exit)) ≡ drawnAnswer (drawsBelow q (length (now (words .entry))) (drop start (now (random .entry)))) ⌝ }
 {
     let width = lengths::octets_of_coefficient(q);
     let mask = group_mask(q);
     let mut at = start;
     let mut groups: usize = 0;
+    let mut dropped: usize = 0;
     let mut i: usize = 0;
     'coefficients: while i < words.len() {
         let value = loop {
@@ -45,6 +47,7 @@ pub fn draw_below(random: &[u8], start: usize, q: u32, words: &mut [u32]) -> Run
             if x < q {
                 break x;
             }
+            dropped += 1;
         };
         words[i] = value;
         i += 1;
@@ -52,7 +55,7 @@ pub fn draw_below(random: &[u8], start: usize, q: u32, words: &mut [u32]) -> Run
     if i < words.len() {
         return Run::Exhausted;
     }
-    Run::Complete(groups)
+    Run::Complete(groups, dropped)
 }
 
 // A small element packed in the octets at a place on.

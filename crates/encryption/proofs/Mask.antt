@@ -1,7 +1,8 @@
 -- What the drawn mask gives: octets inside the random octets, elements in R_q, and the ciphertext of the definitions.
 --
 --   mask-within      the octets of the mask are random octets
---   MaskDrawn        the mask stands in the first parts of the work words; start is where the noise begins in the random octets
+--   MaskDrawn        the mask stands in the first parts of the work words; start is where the noise begins in the random octets, and so many
+--                    groups were dropped before it
 --   mask-told        what a complete run tells;  mask-lent: what a run into the first parts leaves there
 --   drawn-inputs     the judged key and the drawn mask are what the elements are taken from
 --   noise-lent, noise-enough   the octets that are left for the noise;  small-most: an element of it takes few
@@ -19,13 +20,13 @@ use lib.ListN.{length, getD, take, drop, length-take, length-drop}
 use lib.Seq.{take-at, take-all, getD-take}
 use borrow.Rule.Slice.PartMut.{putMid}
 use Rattle.definitions.specs.Parameters.{Parameters, degree, smallBits, qlen, monomialCount, smallLength}
-use Rattle.definitions.specs.Monomials.{Polynomial, polynomialOf}
-use Rattle.definitions.specs.Draws.{Drawn, candidates, draws}
-use Rattle.definitions.specs.Calls.{smallOf, polynomialFrom, octetsFrom, maskDraws, noiseOf, encryptedWith, maskLength, encryptUsed}
+use Rattle.definitions.specs.Monomials.{polynomialOf}
+use Rattle.definitions.specs.Draws.{Drawn, drawsBelow}
+use Rattle.definitions.specs.Calls.{smallOf, polynomialFrom, octetsFrom, maskCoefficients, maskDraws, noiseOf, encryptedWith, maskUsed, encryptUsed}
 use Rattle.definitions.proofs.Parameters.{Accepted, accepted-set, mask-degree-most}
 use Rattle.definitions.proofs.Calls.{encryptExact-told}
 use Rattle.definitions.proofs.Octets.{octetsFrom-cong}
-use Rattle.definitions.proofs.Draws.{draws-values-below, draws-values-length}
+use Rattle.definitions.proofs.Draws.{drawsBelow-values, drawsBelow-length}
 use Rattle.parameters.proofs.Bounds.{smallBits-within}
 use Rattle.draws.specs.declared.Run.{Run}
 use Rattle.draws.specs.declared.Run.the-variants.{Complete}
@@ -38,50 +39,52 @@ use Rattle.ciphertext_elements.specs.Elements.{encryptedFrom}
 use Rattle.ciphertext_elements.proofs.Ciphertext.{SameUpTo, encryptedWith-cong}
 use Rattle.encryption.specs.Steps.{EncryptJudged}
 
-pub record MaskDrawn (p : Parameters) (random : List ℕ) (start : ℕ) (work : List ℕ) : Type 0 where
+pub record MaskDrawn (p : Parameters) (random : List ℕ) (start dropped : ℕ) (work : List ℕ) : Type 0 where
   pub enough : maskDraws p random .enough ≡ true
-  pub values : take (monomialCount (p .dr) * p .n) work ≡ maskDraws p random .values
-  pub taken : start ≡ maskLength p random
+  pub values : take (maskCoefficients p) work ≡ maskDraws p random .values
+  pub taken : start ≡ maskUsed p random
+  pub counted : dropped ≡ maskDraws p random .dropped
 
-pub mask-within : {p : Parameters} {random work : List ℕ} {start : ℕ} → MaskDrawn p random start work → start ≤ length random
-unfolding maskLength maskDraws
-mask-within {p} {random} drawn = omega (arith, drawn .taken, drawsAt-within (p .q) random 0 (monomialCount (p .dr) * p .n) (omega arith))
+pub mask-within : {p : Parameters} {random work : List ℕ} {start dropped : ℕ} → MaskDrawn p random start dropped work → start ≤ length random
+unfolding maskUsed maskDraws
+mask-within {p} {random} drawn = omega (arith, drawn .taken, drawsAt-within (p .q) random 0 (maskCoefficients p) (omega arith))
 
 -- a run into the first parts of the work words
 pub mask-lent : (p : Parameters) (random old new : List ℕ) (run : Run) {count : ℕ} → count ≡ monomialCount (p .dr) → count * p .n ≤ length old
     → length new ≡ length (take (count * p .n - 0) (drop 0 old))
-    → said run new ≡ drawnAnswer (draws (p .q) (length (take (count * p .n - 0) (drop 0 old))) (candidates (p .q) (drop 0 random)))
-    → said run (take (monomialCount (p .dr) * p .n) (putMid 0 (count * p .n - 0) old new)) ≡ drawnAnswer (maskDraws p random)
+    → said run new ≡ drawnAnswer (drawsBelow (p .q) (length (take (count * p .n - 0) (drop 0 old))) (drop 0 random))
+    → said run (take (maskCoefficients p) (putMid 0 (count * p .n - 0) old new)) ≡ drawnAnswer (maskDraws p random)
 unfolding maskDraws
 mask-lent p random old new run {count} e room sized told =
-    let words : length (take (count * p .n - 0) (drop 0 old)) ≡ monomialCount (p .dr) * p .n =
+    let words : length (take (count * p .n - 0) (drop 0 old)) ≡ maskCoefficients p =
     simp (length-take, length-drop) (omega (arith, ap (λ (c : ℕ). c * p .n) e)) in
-    let front : take (monomialCount (p .dr) * p .n) (putMid 0 (count * p .n - 0) old new) ≡ new =
-    take-at new (drop (count * p .n - 0) (drop 0 old)) (monomialCount (p .dr) * p .n) (sized ∙ words) in
-    rw front (told ∙ ap (λ (c : ℕ). drawnAnswer (draws (p .q) c (candidates (p .q) random))) words)
+    let front : take (maskCoefficients p) (putMid 0 (count * p .n - 0) old new) ≡ new =
+    take-at new (drop (count * p .n - 0) (drop 0 old)) (maskCoefficients p) (sized ∙ words) in
+    rw front (told ∙ ap (λ (c : ℕ). drawnAnswer (drawsBelow (p .q) c random)) words)
 
-pub mask-told : (p : Parameters) (random work : List ℕ) {run : Run} {groups width : ℕ} → run ≡ Complete groups
-    → said run (take (monomialCount (p .dr) * p .n) work) ≡ drawnAnswer (maskDraws p random) → width ≡ qlen (p .q) → MaskDrawn p random (width * groups) work
-unfolding maskLength
+pub mask-told : (p : Parameters) (random work : List ℕ) {run : Run} {groups dropped width : ℕ} → run ≡ Complete groups dropped
+    → said run (take (maskCoefficients p) work) ≡ drawnAnswer (maskDraws p random) → width ≡ qlen (p .q) → MaskDrawn p random (width * groups) dropped work
+unfolding maskUsed
 mask-told p random work {groups = groups} e told w =
-    let d = said-complete (maskDraws p random) (take (monomialCount (p .dr) * p .n) work) e told in
+    let d = said-complete (maskDraws p random) (take (maskCoefficients p) work) e told in
     record {
-      enough = ap (λ (x : Drawn). x .enough) d;
-      values = sym (ap (λ (x : Drawn). x .values) d);
-      taken = ap (λ (x : ℕ). x * groups) w ∙ sym (ap (λ (x : Drawn). qlen (p .q) * x .groups) d);
+      enough = ap (λ (x : Drawn ℕ). x .enough) d;
+      values = sym (ap (λ (x : Drawn ℕ). x .values) d);
+      taken = ap (λ (x : ℕ). x * groups) w ∙ sym (ap (λ (x : Drawn ℕ). qlen (p .q) * x .groups) d);
+      counted = sym (ap (λ (x : Drawn ℕ). x .dropped) d);
     }
 
 -- the mask in the work words is the drawn one
-mask-same : (p : Parameters) (work values : List ℕ) → p .dr ≤ 2 → take (monomialCount (p .dr) * p .n) work ≡ values
+mask-same : (p : Parameters) (work values : List ℕ) → p .dr ≤ 2 → take (maskCoefficients p) work ≡ values
     → SameUpTo (monomialCount (p .dr)) (p .n) (maskIn p work) (polynomialOf (p .n) values)
 unfolding polynomialOf
 mask-same p work values low e j l k b =
     getD-take (6 * p .n) work (j * p .n + k) 0 (digits-lt (omega (arith, count-six (p .dr) low)) b)
-    ∙ sym (getD-take (monomialCount (p .dr) * p .n) work (j * p .n + k) 0 (digits-lt l b))
+    ∙ sym (getD-take (maskCoefficients p) work (j * p .n + k) 0 (digits-lt l b))
     ∙ ap (λ (w : List ℕ). getD w (j * p .n + k) 0) e
 
-module _ {p : Parameters} {public message random ciphertext old work : List ℕ} {start : ℕ} (judged : EncryptJudged p public message ciphertext old)
-    (drawn : MaskDrawn p random start work)
+module _ {p : Parameters} {public message random ciphertext old work : List ℕ} {start dropped : ℕ} (judged : EncryptJudged p public message ciphertext old)
+    (drawn : MaskDrawn p random start dropped work)
   where
     set : Accepted p
     set = accepted-set p (judged .set)
@@ -90,7 +93,7 @@ module _ {p : Parameters} {public message random ciphertext old work : List ℕ}
     unfolding maskDraws polynomialOf
     drawn-inputs long =
         let lengths = encryptExact-told p (judged .exact) in
-        let run = draws (p .q) (monomialCount (p .dr) * p .n) (candidates (p .q) random) in
+        let run = drawsBelow (p .q) (maskCoefficients p) random in
         record {
           set = judged .set;
           public-exact = lengths .0;
@@ -98,8 +101,8 @@ module _ {p : Parameters} {public message random ciphertext old work : List ℕ}
           work-exact = long ∙ lengths .3;
           mask = λ j l k b.
               rw (mask-same p work (run .values) (mask-degree-most p set) (drawn .values) j l k b)
-              (draws-values-below (p .q) (monomialCount (p .dr) * p .n) (candidates (p .q) random) (j * p .n + k)
-              (rw (draws-values-length (p .q) (monomialCount (p .dr) * p .n) (candidates (p .q) random) (drawn .enough)) (digits-lt l b)));
+              (drawsBelow-values (p .q) (maskCoefficients p) random (j * p .n + k)
+              (rw (drawsBelow-length (p .q) (maskCoefficients p) random (drawn .enough)) (digits-lt l b)));
         }
 
     -- the octets that encryption takes, counted from the lengths
@@ -111,7 +114,7 @@ module _ {p : Parameters} {public message random ciphertext old work : List ℕ}
     pub ciphertext-same : (noise : List ℕ) → noise ≡ drop start random
         → encryptedFrom p public message noise work
         ≡ octetsFrom p (degree p)
-        (encryptedWith p (polynomialFrom p public) (smallOf p message) (polynomialOf (p .n) (maskDraws p random .values)) (noiseOf p (drop (maskLength p random) random)))
+        (encryptedWith p (polynomialFrom p public) (smallOf p message) (polynomialOf (p .n) (maskDraws p random .values)) (noiseOf p (drop (maskUsed p random) random)))
     ciphertext-same noise e =
         rw (e, ← drawn .taken)
         (octetsFrom-cong p (degree p) (λ i l k b.

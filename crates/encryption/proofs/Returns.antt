@@ -46,12 +46,14 @@ module _ (p : Parameters) (public message random : List ℕ) where
         unfolding firstRefusal
         later-passed l = rw (padded, fits, enough, le-ltb (length random) (encryptUsed p random) l)
 
-module _ (ciphertext : List ℕ) (used : ℕ) (work : List ℕ) {k : ℕ} {zeros : List ℕ} where
+module _ (ciphertext : List ℕ) (used dropped : ℕ) (work : List ℕ) {k : ℕ} {zeros : List ℕ} where
   pub leaves-refused : (number : ℕ) → (k ≡ number) × (zeros ≡ replicate (length work) 0)
-      → _≡_ {A = EncryptExit} (record { refusal = k; ciphertext = ciphertext; used = used; work = zeros }) (encryptLeaves (refused number) ciphertext used work)
+      → _≡_ {A = EncryptExit} (record { refusal = k; ciphertext = ciphertext; used = used; droppedGroups = dropped; work = zeros })
+      (encryptLeaves (refused number) ciphertext used dropped work)
   leaves-refused number z = rw (z .0, z .1)
 
-  pub leaves-accepted : (a : Encrypted) {octets : List ℕ} {count : ℕ} → (k ≡ 0) × (zeros ≡ replicate (length work) 0)
-      → octets ≡ a .ciphertext → count ≡ a .used
-      → _≡_ {A = EncryptExit} (record { refusal = k; ciphertext = octets; used = count; work = zeros }) (encryptLeaves (accepted a) ciphertext used work)
-  leaves-accepted a z o u = rw (z .0, z .1, o, u)
+  pub leaves-accepted : (a : Encrypted) {octets : List ℕ} {count groups : ℕ} → (k ≡ 0) × (zeros ≡ replicate (length work) 0)
+      → octets ≡ a .ciphertext → count ≡ a .used → groups ≡ a .droppedGroups
+      → _≡_ {A = EncryptExit} (record { refusal = k; ciphertext = octets; used = count; droppedGroups = groups; work = zeros })
+      (encryptLeaves (accepted a) ciphertext used dropped work)
+  leaves-accepted a z o u d = rw (z .0, z .1, o, u, d)

@@ -27,20 +27,22 @@ module _ (s : Parameters) {r : Checked} (e : checkedAs r ≡ setAnswer s) where
         → leaves (untouched k) ≡ leaves (answer (lengthTests s exact) later a)
     refused leaves exact later a = let told = checked-refused s e same in exit-set leaves s exact later a (told .0) (told .1)
 
-    pub keygen-refused : (random secret public : List ℕ) (used : ℕ) (work : List ℕ)
-        → _≡_ {A = KeygenExit} (record { refusal = k; secret = secret; public = public; used = used; work = work }) (keygenExit s random secret public used work)
+    pub keygen-refused : (random secret public : List ℕ) (used dropped : ℕ) (work : List ℕ)
+        → _≡_ {A = KeygenExit} (record { refusal = k; secret = secret; public = public; used = used; droppedGroups = dropped; work = work })
+        (keygenExit s random secret public used dropped work)
     unfolding keygenExit keygenAnswer
-    keygen-refused random secret public used work = refused (λ x. keygenLeaves x secret public used work) _ _ _
+    keygen-refused random secret public used dropped work = refused (λ x. keygenLeaves x secret public used dropped work) _ _ _
 
     pub isZero-refused : (secret public : List ℕ) (old : ℕ) (work : List ℕ)
         → _≡_ {A = IsZeroExit} (record { refusal = k; zero = old; work = work }) (isZeroExit s secret public old work)
     unfolding isZeroExit isZeroAnswer
     isZero-refused secret public old work = refused (λ x. isZeroLeaves x old work) _ _ _
 
-    pub encrypt-refused : (public message random ciphertext : List ℕ) (used : ℕ) (work : List ℕ)
-        → _≡_ {A = EncryptExit} (record { refusal = k; ciphertext = ciphertext; used = used; work = work }) (encryptExit s public message random ciphertext used work)
+    pub encrypt-refused : (public message random ciphertext : List ℕ) (used dropped : ℕ) (work : List ℕ)
+        → _≡_ {A = EncryptExit} (record { refusal = k; ciphertext = ciphertext; used = used; droppedGroups = dropped; work = work })
+        (encryptExit s public message random ciphertext used dropped work)
     unfolding encryptExit encryptAnswer
-    encrypt-refused public message random ciphertext used work = refused (λ x. encryptLeaves x ciphertext used work) _ _ _
+    encrypt-refused public message random ciphertext used dropped work = refused (λ x. encryptLeaves x ciphertext used dropped work) _ _ _
 
     pub add-refused : (a b sum : List ℕ) → _≡_ {A = AddExit} (record { refusal = k; sum = sum }) (addExit s a b sum)
     unfolding addExit addAnswer

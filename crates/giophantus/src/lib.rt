@@ -84,7 +84,7 @@ pub extern "C" fn giophantus_lengths(
     }
 }
 
-// A secret key and its public key from random octets, and the octets used.
+// A secret key and its public key from random octets, the octets used and the groups dropped.
 #[no_mangle]
 pub extern "C" fn giophantus_keygen(
     l: u32,
@@ -98,11 +98,12 @@ pub extern "C" fn giophantus_keygen(
     public_key: &mut [u8],
     work: &mut [u32],
     used: &mut u64,
+    dropped: &mut u64,
 ) -> u32
-    ensures { λ r. ⌜ Makes (set l q n dx dr mlen) random «secret_key» «public_key» work used r ⌝ }
+    ensures { λ r. ⌜ Makes (set l q n dx dr mlen) random «secret_key» «public_key» work used dropped r ⌝ }
 {
     match Parameters::new(l, q, n, dx, dr, mlen) {
-        Checked::Accepted(p) => keygen(p, random, secret_key, public_key, work, used),
+        Checked::Accepted(p) => keygen(p, random, secret_key, public_key, work, used, dropped),
         Checked::Refused(k) => k,
     }
 }
@@ -129,7 +130,7 @@ pub extern "C" fn giophantus_is_zero(
     }
 }
 
-// A ciphertext of a message under a public key, and the octets used.
+// A ciphertext of a message under a public key, the octets used and the groups dropped.
 #[no_mangle]
 pub extern "C" fn giophantus_encrypt(
     l: u32,
@@ -144,11 +145,21 @@ pub extern "C" fn giophantus_encrypt(
     ciphertext: &mut [u8],
     work: &mut [u32],
     used: &mut u64,
+    dropped: &mut u64,
 ) -> u32
-    ensures { λ r. ⌜ Encrypts (set l q n dx dr mlen) «public_key» message random ciphertext work used r ⌝ }
+    ensures { λ r. ⌜ Encrypts (set l q n dx dr mlen) «public_key» message random ciphertext work used dropped r ⌝ }
 {
     match Parameters::new(l, q, n, dx, dr, mlen) {
-        Checked::Accepted(p) => encrypt(p, public_key, message, random, ciphertext, work, used),
+        Checked::Accepted(p) => encrypt(
+            p,
+            public_key,
+            message,
+            random,
+            ciphertext,
+            work,
+            used,
+            dropped,
+        ),
         Checked::Refused(k) => k,
     }
 }

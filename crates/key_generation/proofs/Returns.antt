@@ -19,12 +19,12 @@ use Rattle.definitions.proofs.Refusals.{firstRefusal-applies, firstRefusal-last
 use Rattle.definitions.proofs.Exits.{exit-length, exit-refused, exit-accepted}
 use Rattle.key_generation.specs.Keys.{wordsX, wordsY, wordsTerms, HalvesDrawn, publicIn}
 
-module _ (p : Parameters) (random secret public : List ℕ) (used : ℕ) (work : List ℕ) (set : AcceptedSet p) where
+module _ (p : Parameters) (random secret public : List ℕ) (used dropped : ℕ) (work : List ℕ) (set : AcceptedSet p) where
   abbrev leaves : Answer KeyPair → KeygenExit
-  leaves a = keygenLeaves a secret public used work
+  leaves a = keygenLeaves a secret public used dropped work
 
   abbrev exit : KeygenExit
-  exit = keygenExit p random secret public used work
+  exit = keygenExit p random secret public used dropped work
 
   pub keygen-length : keysExact p (length secret) (length public) (length work) ≡ false → leaves (untouched 6) ≡ exit
   unfolding keygenExit keygenAnswer
@@ -35,7 +35,7 @@ module _ (p : Parameters) (random secret public : List ℕ) (used : ℕ) (work :
     abbrev Exhausted : ℕ → List ℕ → Type 0
     Exhausted k zeros =
         (k ≡ 9) × (zeros ≡ replicate (length work) 0)
-        → _≡_ {A = KeygenExit} (record { refusal = k; secret = secret; public = public; used = used; work = zeros }) exit
+        → _≡_ {A = KeygenExit} (record { refusal = k; secret = secret; public = public; used = used; droppedGroups = dropped; work = zeros }) exit
 
     pub keygen-short : length random < secretLength p → {k : ℕ} {zeros : List ℕ} → Exhausted k zeros
     unfolding keygenExit keygenAnswer
@@ -51,14 +51,15 @@ module _ (p : Parameters) (random secret public : List ℕ) (used : ℕ) (work :
           (firstRefusal-applies 9 _ [] (rw (le-ltb (length random) (secretLength p) room, h))))
 
       -- both keys, of what was drawn into other work words
-      pub keygen-written : (words : List ℕ) (groups : ℕ) → HalvesDrawn p random words
-          → keyDraws p random ≡ record { values = wordsTerms p words; groups = groups; enough = true }
+      pub keygen-written : (words : List ℕ) (groups count : ℕ) → HalvesDrawn p random words
+          → keyDraws p random ≡ record { values = wordsTerms p words; groups = groups; dropped = count; enough = true }
           → {k u : ℕ} {s o zeros : List ℕ} → s ≡ secretOf p (wordsX p words) (wordsY p words) → o ≡ publicIn p words
           → u ≡ secretLength p + qlen (p .q) * groups → (k ≡ 0) × (zeros ≡ replicate (length work) 0)
-          → _≡_ {A = KeygenExit} (record { refusal = k; secret = s; public = o; used = u; work = zeros }) exit
+          → _≡_ {A = KeygenExit} (record { refusal = k; secret = s; public = o; used = u; droppedGroups = count; work = zeros }) exit
       unfolding keygenExit keygenAnswer keyPairOf
-      keygen-written words groups halves e es eo eu z =
-          let values : wordsTerms p words ≡ keyDraws p random .values = ap (λ (d : Drawn). d .values) (sym e) in
-          let taken : groups ≡ keyDraws p random .groups = ap (λ (d : Drawn). d .groups) (sym e) in
-          rw (es, eo, eu, z .0, z .1, halves .x, halves .y, values, taken) (exit-accepted leaves p _ _ _ set exact
+      keygen-written words groups count halves e es eo eu z =
+          let values : wordsTerms p words ≡ keyDraws p random .values = ap (λ (d : Drawn ℕ). d .values) (sym e) in
+          let taken : groups ≡ keyDraws p random .groups = ap (λ (d : Drawn ℕ). d .groups) (sym e) in
+          let counted : count ≡ keyDraws p random .dropped = ap (λ (d : Drawn ℕ). d .dropped) (sym e) in
+          rw (es, eo, eu, z .0, z .1, halves .x, halves .y, values, taken, counted) (exit-accepted leaves p _ _ _ set exact
           (firstRefusal-last 9 _ (rw (le-ltb (length random) (secretLength p) room, e))))

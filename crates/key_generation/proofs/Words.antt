@@ -24,8 +24,8 @@ use borrow.Rule.Slice.PartMut.{midOf, putMid, same-len-mid, mid-len}
 use Rattle.definitions.specs.Parameters.{Parameters, smallBits, qlen, monomialCount, smallLength, secretLength}
 use Rattle.definitions.specs.Ring.{elementOf, InRing}
 use Rattle.definitions.specs.Octets.{coefficientsFit, packed}
-use Rattle.definitions.specs.Draws.{candidates, draws, secretDrawn}
-use Rattle.definitions.specs.Calls.{keyDraws}
+use Rattle.definitions.specs.Draws.{drawsBelow, secretDrawn}
+use Rattle.definitions.specs.Calls.{keyCoefficients, keyDraws}
 use Rattle.definitions.specs.Demand3.{AcceptedSet, InSmallRing}
 use Rattle.definitions.proofs.Parameters.{Accepted, accepted-set, range-most, modulus-positive, modulus-word, qlen-least, qlen-most}
 use Rattle.definitions.proofs.Parameters.{smallBits-power, smallBits-least, smallBits-most}
@@ -44,7 +44,7 @@ use Rattle.key_generation.proofs.Parts.{borrowed-slice, put-zeros, put-
 pub used-room : (p : Parameters) (random : List ℕ) → secretLength p ≤ length random
     → secretLength p + qlen (p .q) * keyDraws p random .groups ≤ length random
 unfolding keyDraws
-used-room p random room = drawsAt-within (p .q) random (secretLength p) ((monomialCount (p .dx) - 1) * p .n) room
+used-room p random room = drawsAt-within (p .q) random (secretLength p) (keyCoefficients p) room
 
 module _ (p : Parameters) (a : Accepted p) where
   pub others-most : monomialCount (p .dx) - 1 ≤ 5
@@ -120,7 +120,7 @@ module _ (p : Parameters) (random work : List ℕ) where
 -- a run of draws lent the words of the terms
 pub terms-drawn : (p : Parameters) (random work words : List ℕ) (run : Run) {start stop : ℕ} → start ≡ secretLength p → stop ≡ termsEnd p → stop ≤ length work
     → length words ≡ length (midOf (p .n + p .n) (stop - (p .n + p .n)) work)
-    → said run words ≡ drawnAnswer (draws (p .q) (length (midOf (p .n + p .n) (stop - (p .n + p .n)) work)) (candidates (p .q) (drop start random)))
+    → said run words ≡ drawnAnswer (drawsBelow (p .q) (length (midOf (p .n + p .n) (stop - (p .n + p .n)) work)) (drop start random))
     → (said run (wordsTerms p (putMid (p .n + p .n) (stop - (p .n + p .n)) work words)) ≡ drawnAnswer (keyDraws p random))
     × (take (p .n + p .n) (putMid (p .n + p .n) (stop - (p .n + p .n)) work words) ≡ take (p .n + p .n) work)
 unfolding keyDraws
@@ -128,11 +128,11 @@ terms-drawn p random work words run {start} {stop} es e room sized told =
     let at : ℕ = p .n + p .n in
     let more : at ≤ stop = omega arith in
     let given : List ℕ = putMid at (stop - at) work words in
-    let count : length (midOf at (stop - at) work) ≡ (monomialCount (p .dx) - 1) * p .n = mid-len at stop work room ∙ omega arith in
+    let count : length (midOf at (stop - at) work) ≡ keyCoefficients p = mid-len at stop work room ∙ omega arith in
     let f : Follows at stop words work given = put-follows at stop work more room words sized in (
       rw (← e, ← es)
           (ap (λ (w : List ℕ). said run w) (follows-slice at stop words work given (omega arith) f)
-          ∙ told ∙ ap (λ (m : ℕ). drawnAnswer (draws (p .q) m (candidates (p .q) (drop start random)))) count),
+          ∙ told ∙ ap (λ (m : ℕ). drawnAnswer (drawsBelow (p .q) m (drop start random))) count),
       follows-kept at stop words work given (omega arith) f more,
     )
 

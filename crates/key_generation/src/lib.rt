@@ -3,7 +3,8 @@
 //
 // The set is accepted. A length that is not the exact one is refused (6), and nothing is touched; random octets that end before the last
 // draw is complete are refused (9), and the outputs stay as they were and the work words are zero. All that is drawn stands in the work
-// words, u_x and u_y in the first two parts and the terms behind them, before an output is written. The contract is the definitions' Makes.
+// words, u_x and u_y in the first two parts and the terms behind them, before an output is written. With the keys it says the octets used
+// and the groups dropped (02, Q-1). The contract is the definitions' Makes.
 ghost use mathlib.Core.Path.{_≡_};
 ghost use mathlib.Core.Bool.{true};
 ghost use Prim.Native.Nat.{_+_, _*_, _≤_, _<_};
@@ -124,12 +125,13 @@ fn keygen_counted(
     public: &mut [u8],
     work: &mut [u32],
     used: &mut u64,
+    dropped_groups: &mut u64,
 ) -> u32
     requires { ⌜ AcceptedSet (setFrom p) × (keysExact (setFrom p) (length (now secret)) (length (now public)) (length (now work)) ≡ true) × (secretLength (setFrom p) ≤ length (now random)) ⌝ }
-    ensures { λ r. ⌜ Makes (setFrom p) random secret public work used r ⌝ }
+    ensures { λ r. ⌜ Makes (setFrom p) random secret public work used «dropped_groups» r ⌝ }
 {
     draw_halves(p, random, work);
-    let Run::Complete(groups) = draw_terms(p, random, work) else {
+    let Run::Complete(groups, dropped) = draw_terms(p, random, work) else {
         return ring::cleared(work, refusals::EXHAUSTED);
     };
     write_secret(p, secret, work);
@@ -137,6 +139,7 @@ fn keygen_counted(
     let start = lengths::secret_length(p);
     let taken = lengths::octets_of_coefficient(p.q) * groups;
     *used = (start + taken) as u64;
+    *dropped_groups = dropped as u64;
     ring::cleared(work, 0)
 }
 
@@ -147,9 +150,10 @@ pub fn keygen(
     public: &mut [u8],
     work: &mut [u32],
     used: &mut u64,
+    dropped_groups: &mut u64,
 ) -> u32
     requires { ⌜ AcceptedSet (setFrom p) ⌝ }
-    ensures { λ r. ⌜ Makes (setFrom p) random secret public work used r ⌝ }
+    ensures { λ r. ⌜ Makes (setFrom p) random secret public work used «dropped_groups» r ⌝ }
 {
     if !lengths::keys_exact(p, secret.len(), public.len(), work.len()) {
         return refusals::LENGTH;
@@ -157,5 +161,5 @@ pub fn keygen(
     if random.len() < lengths::secret_length(p) {
         return ring::cleared(work, refusals::EXHAUSTED);
     }
-    keygen_counted(p, random, secret, public, work, used)
+    keygen_counted(p, random, secret, public, work, used, dropped_groups)
 }

@@ -2,11 +2,13 @@
 //! arguments and judged. `inline` as in `ffi`.
 
 use reference::octets::{numbers_to_octets, pack};
+use reference::prng::Prng;
 use reference::Set;
 
 use crate::buffer::Buffer;
 use crate::ffi;
 use crate::run::{Made, Run};
+use crate::used;
 
 #[inline]
 pub fn check(run: &mut Run, set: Set) -> u32 {
@@ -101,47 +103,107 @@ pub struct Keys {
     pub secret_key: Vec<u8>,
     pub public_key: Vec<u8>,
     pub used: u64,
+    pub dropped_groups: u64,
+}
+
+/// The two numbers that keygen and encrypt tell of their random octets.
+struct Told {
+    used: Buffer<u64>,
+    dropped_groups: Buffer<u64>,
+}
+
+impl Told {
+    /// Garbage. That of the dropped groups is made from that of the octets used and takes nothing from
+    /// the run's sequence, so that the known answers of before document 02's Q-1 stay the same.
+    fn garbage(prng: &mut Prng) -> Self {
+        let used = Buffer::one("used", prng);
+        let dropped_groups = Buffer::one("dropped_groups", &mut Prng::new(used.slice()[0]));
+        Told {
+            used,
+            dropped_groups,
+        }
+    }
+
+    /// Both numbers. Those of an accepted call fit together, which needs no reference implementation:
+    /// `wanted` gives the octets used from the dropped groups.
+    fn numbers(&self, run: &Run, set: Set, number: u32, wanted: fn(Set, u64) -> u64) -> [u64; 2] {
+        let [used, dropped_groups] = [&self.used, &self.dropped_groups].map(|one| one.slice()[0]);
+        let right = number != 0 || used == wanted(set, dropped_groups);
+        let words = "the octets used are the fixed part and qlen for each dropped group";
+        run.expect(right, set, words);
+        [used, dropped_groups]
+    }
+}
+
+/// What keygen is lent.
+struct KeygenBuffers {
+    random: Buffer<u8>,
+    secret_key: Buffer<u8>,
+    public_key: Buffer<u8>,
+    work: Buffer<u32>,
+    told: Told,
+}
+
+impl KeygenBuffers {
+    /// The library's number and the reference implementation's.
+    #[inline]
+    fn call(&mut self, set: Set) -> [u32; 2] {
+        let number = ffi::keygen(
+            set,
+            self.random.slice(),
+            self.secret_key.slice_mut(),
+            self.public_key.slice_mut(),
+            self.work.slice_mut(),
+            self.told.used.cell_mut(),
+            self.told.dropped_groups.cell_mut(),
+        );
+        let wanted = reference::keygen(
+            set,
+            self.random.wanted(),
+            self.secret_key.wanted(),
+            self.public_key.wanted(),
+            self.work.wanted(),
+            self.told.used.wanted_cell(),
+            self.told.dropped_groups.wanted_cell(),
+        );
+        [number, wanted]
+    }
 }
 
 #[inline]
 pub fn keygen(run: &mut Run, set: Set, random: &[u8], lengths: KeygenLengths) -> Keys {
     let prng = &mut run.prng;
-    let mut random = Buffer::given("random", random, prng);
-    let mut secret_key = Buffer::garbage("secret_key", lengths.secret_key, prng);
-    let mut public_key = Buffer::garbage("public_key", lengths.public_key, prng);
-    let mut work = Buffer::garbage("work", lengths.work, prng);
-    let mut used = Buffer::one("used", prng);
+    let mut lent = KeygenBuffers {
+        random: Buffer::given("random", random, prng),
+        secret_key: Buffer::garbage("secret_key", lengths.secret_key, prng),
+        public_key: Buffer::garbage("public_key", lengths.public_key, prng),
+        work: Buffer::garbage("work", lengths.work, prng),
+        told: Told::garbage(prng),
+    };
     run.announce("keygen", set);
-    let number = ffi::keygen(
-        set,
-        random.slice(),
-        secret_key.slice_mut(),
-        public_key.slice_mut(),
-        work.slice_mut(),
-        used.cell_mut(),
-    );
-    let wanted = reference::keygen(
-        set,
-        random.wanted(),
-        secret_key.wanted(),
-        public_key.wanted(),
-        work.wanted(),
-        used.wanted_cell(),
-    );
+    let [number, wanted] = lent.call(set);
+    let told = &lent.told;
     run.judge(Made {
         call: "keygen",
         set,
         number,
         wanted,
-        inputs: &[&random],
-        outputs: &[&secret_key, &public_key, &used],
-        work: Some(&work),
+        inputs: &[&lent.random],
+        outputs: &[
+            &lent.secret_key,
+            &lent.public_key,
+            &told.used,
+            &told.dropped_groups,
+        ],
+        work: Some(&lent.work),
     });
+    let [used, dropped_groups] = told.numbers(run, set, number, used::keygen);
     Keys {
         number,
-        secret_key: secret_key.contents(),
-        public_key: public_key.contents(),
-        used: used.slice()[0],
+        secret_key: lent.secret_key.contents(),
+        public_key: lent.public_key.contents(),
+        used,
+        dropped_groups,
     }
 }
 
@@ -206,6 +268,45 @@ pub struct Encrypted {
     pub number: u32,
     pub ciphertext: Vec<u8>,
     pub used: u64,
+    pub dropped_groups: u64,
+}
+
+/// What encrypt is lent.
+struct EncryptBuffers {
+    public_key: Buffer<u8>,
+    message: Buffer<u8>,
+    random: Buffer<u8>,
+    ciphertext: Buffer<u8>,
+    work: Buffer<u32>,
+    told: Told,
+}
+
+impl EncryptBuffers {
+    /// The library's number and the reference implementation's.
+    #[inline]
+    fn call(&mut self, set: Set) -> [u32; 2] {
+        let number = ffi::encrypt(
+            set,
+            self.public_key.slice(),
+            self.message.slice(),
+            self.random.slice(),
+            self.ciphertext.slice_mut(),
+            self.work.slice_mut(),
+            self.told.used.cell_mut(),
+            self.told.dropped_groups.cell_mut(),
+        );
+        let wanted = reference::encrypt(
+            set,
+            self.public_key.wanted(),
+            self.message.wanted(),
+            self.random.wanted(),
+            self.ciphertext.wanted(),
+            self.work.wanted(),
+            self.told.used.wanted_cell(),
+            self.told.dropped_groups.wanted_cell(),
+        );
+        [number, wanted]
+    }
 }
 
 #[inline]
@@ -218,44 +319,32 @@ pub fn encrypt(
     lengths: EncryptLengths,
 ) -> Encrypted {
     let prng = &mut run.prng;
-    let mut public_key = Buffer::given("public_key", public_key, prng);
-    let mut message = Buffer::given("message", message, prng);
-    let mut random = Buffer::given("random", random, prng);
-    let mut ciphertext = Buffer::garbage("ciphertext", lengths.ciphertext, prng);
-    let mut work = Buffer::garbage("work", lengths.work, prng);
-    let mut used = Buffer::one("used", prng);
+    let mut lent = EncryptBuffers {
+        public_key: Buffer::given("public_key", public_key, prng),
+        message: Buffer::given("message", message, prng),
+        random: Buffer::given("random", random, prng),
+        ciphertext: Buffer::garbage("ciphertext", lengths.ciphertext, prng),
+        work: Buffer::garbage("work", lengths.work, prng),
+        told: Told::garbage(prng),
+    };
     run.announce("encrypt", set);
-    let number = ffi::encrypt(
-        set,
-        public_key.slice(),
-        message.slice(),
-        random.slice(),
-        ciphertext.slice_mut(),
-        work.slice_mut(),
-        used.cell_mut(),
-    );
-    let wanted = reference::encrypt(
-        set,
-        public_key.wanted(),
-        message.wanted(),
-        random.wanted(),
-        ciphertext.wanted(),
-        work.wanted(),
-        used.wanted_cell(),
-    );
+    let [number, wanted] = lent.call(set);
+    let told = &lent.told;
     run.judge(Made {
         call: "encrypt",
         set,
         number,
         wanted,
-        inputs: &[&public_key, &message, &random],
-        outputs: &[&ciphertext, &used],
-        work: Some(&work),
+        inputs: &[&lent.public_key, &lent.message, &lent.random],
+        outputs: &[&lent.ciphertext, &told.used, &told.dropped_groups],
+        work: Some(&lent.work),
     });
+    let [used, dropped_groups] = told.numbers(run, set, number, used::encrypt);
     Encrypted {
         number,
-        ciphertext: ciphertext.contents(),
-        used: used.slice()[0],
+        ciphertext: lent.ciphertext.contents(),
+        used,
+        dropped_groups,
     }
 }
 

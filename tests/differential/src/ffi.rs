@@ -16,6 +16,7 @@ macro_rules! interface {
     // All arguments taken: the declaration and the wrapper.
     (@ $name:ident $symbol:ident [$($c:tt)*] [$($rust:tt)*] [$($pass:tt)*]) => {
         #[inline]
+        #[allow(clippy::too_many_arguments)] // as many as the call has
         pub fn $name(set: Set, $($rust)*) -> u32 {
             #[link(name = "giophantus", kind = "static")]
             extern "C" {
@@ -63,14 +64,14 @@ interface! {
     );
     keygen as giophantus_keygen(
         random: &[u8], secret_key: &mut [u8], public_key: &mut [u8], work: &mut [u32],
-        used: &mut u64
+        used: &mut u64, dropped_groups: &mut u64
     );
     is_zero as giophantus_is_zero(
         secret_key: &[u8], public_key: &[u8], work: &mut [u32], zero: &mut u32
     );
     encrypt as giophantus_encrypt(
         public_key: &[u8], message: &[u8], random: &[u8], ciphertext: &mut [u8],
-        work: &mut [u32], used: &mut u64
+        work: &mut [u32], used: &mut u64, dropped_groups: &mut u64
     );
     add as giophantus_add(a: &[u8], b: &[u8], sum: &mut [u8]);
     decrypt as giophantus_decrypt(

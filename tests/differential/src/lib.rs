@@ -16,3 +16,4 @@ pub mod run;
 pub mod sets;
 pub mod spoil;
 pub mod sums;
+pub mod used;

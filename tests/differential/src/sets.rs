@@ -95,3 +95,18 @@ pub fn sets_with(l: u32, n: u32, (dx, dr): (u32, u32), prng: &mut Prng) -> Vec<S
         .map(|q| set(l, q, n, dx, dr, random_mlen(l, n, prng)))
         .collect()
 }
+
+/// The accepted sets with this q, n 2, 8 or 81 and full messages.
+pub fn sets_of(q: u32) -> Vec<Set> {
+    let mut list = Vec::new();
+    for n in [2, 8, 81] {
+        for l in RANGES {
+            for (dx, dr) in DEGREES {
+                if least_q(l, n, dx + dr).is_some_and(|least| least <= q) {
+                    list.push(set(l, q, n, dx, dr, n * bits_of(l)));
+                }
+            }
+        }
+    }
+    list
+}

@@ -4,28 +4,12 @@
 use reference::monomials::{count, monomials};
 use reference::octets::{numbers_to_octets, pack};
 use reference::prng::Prng;
-use reference::set::set;
 use reference::Set;
 
-use crate::sets::{bits_of, least_q, DEGREES, MOST_Q, RANGES};
+use crate::sets::MOST_Q;
 
 /// The least accepted q of all, 2^16 and the number before it, 2^24, and the largest q.
 pub const MODULI: [u32; 5] = [36, 65_535, 65_536, 16_777_216, MOST_Q];
-
-/// The accepted sets with this q, n 2, 8 or 81 and full messages.
-pub fn sets_of(q: u32) -> Vec<Set> {
-    let mut list = Vec::new();
-    for n in [2, 8, 81] {
-        for l in RANGES {
-            for (dx, dr) in DEGREES {
-                if least_q(l, n, dx + dr).is_some_and(|least| least <= q) {
-                    list.push(set(l, q, n, dx, dr, n * bits_of(l)));
-                }
-            }
-        }
-    }
-    list
-}
 
 /// The sums of two coefficients at the limits of a reduction.
 pub fn totals(q: u32) -> [u64; 4] {

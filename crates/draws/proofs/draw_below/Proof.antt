@@ -10,17 +10,17 @@ use Rattle.draws.proofs.draw_below.Statement.{statement}
 use Rattle.draws.proofs.draw_below.Tie as tie
 
 abbrev Inv-loop : tie.InvT-loop
-Inv-loop random start q words width mask at₀ groups₀ i at groups = Going q random start words i at groups
+Inv-loop random start q words width mask at₀ groups₀ dropped₀ i at groups dropped = Going q random start words i at groups dropped
 
 abbrev μ-loop : tie.MeasureT-loop
-μ-loop random start q words width mask at₀ groups₀ i at groups = length random - at
+μ-loop random start q words width mask at₀ groups₀ dropped₀ i at groups dropped = length random - at
 
 abbrev Inv-coefficients : tie.InvT-coefficients
-Inv-coefficients random start q words₀ width mask at₀ groups₀ i₀ words at groups i =
-    (i ≤ length words) × (length words ≡ length words₀) × Going q random start words i at groups
+Inv-coefficients random start q words₀ width mask at₀ groups₀ dropped₀ i₀ words at groups dropped i =
+    (i ≤ length words) × (length words ≡ length words₀) × Going q random start words i at groups dropped
 
 abbrev μ-coefficients : tie.MeasureT-coefficients
-μ-coefficients random start q words₀ width mask at₀ groups₀ i₀ words at groups i = length words - i
+μ-coefficients random start q words₀ width mask at₀ groups₀ dropped₀ i₀ words at groups dropped i = length words - i
 
 coefficients-holds : tie.Need-coefficients-holds Inv-loop μ-loop Inv-coefficients μ-coefficients
 coefficients-holds c =
@@ -28,7 +28,7 @@ coefficients-holds c =
     (zero-le, refl, going-start _ _ _ _ (s .pre .1) (omega arith) (s .pre .0))
 
 loop-holds : tie.Need-loop-holds Inv-loop μ-loop Inv-coefficients μ-coefficients
-loop-holds c = search needs
+loop-holds c = let turn : tie.At-coefficients Inv-loop μ-loop Inv-coefficients μ-coefficients = search needs in turn .coefficients .inv .2
 
 loop-again : tie.Need-loop-again Inv-loop μ-loop Inv-coefficients μ-coefficients
 loop-again c =
@@ -58,12 +58,12 @@ returns c =
 returns-2 : tie.Need-returns-2 Inv-loop μ-loop Inv-coefficients μ-coefficients
 returns-2 c =
     let turned : tie.At-coefficients Inv-loop μ-loop Inv-coefficients μ-coefficients = search needs in
-    ⊎-elim (λ w. going-complete (turned .coefficients .inv .2) (turned .coefficients .inv .1) (w .0 .left) (w .2)) (λ w. let z : ⊥ = omega arith in absurd z)
+    ⊎-elim (λ w. going-complete (turned .coefficients .inv .2) (turned .coefficients .inv .1) (w .0 .left) (w .2) (w .3)) (λ w. let z : ⊥ = omega arith in absurd z)
     (c .before .coefficients-test .came)
 
 pub draw-below-spec : {M : Type 1} → statement M
 draw-below-spec =
     tie.close
     (tie.spec Inv-loop μ-loop Inv-coefficients μ-coefficients (λ c κs. search needs) (λ c κs. search needs) coefficients-holds loop-holds (λ c. search needs)
-    (λ c κs. search needs) (λ c. search needs) (λ c. search needs) (λ c. search needs) loop-again (λ c. search needs) (λ c. search needs) (λ c. search needs)
+    (λ c κs. search needs) (λ c. search needs) (λ c. search needs) (λ c. search needs) (λ c. search needs) loop-again (λ c. search needs) (λ c. search needs) (λ c. search needs)
     (λ c. simp length-set (omega arith)) coefficients-again (λ c. search needs) returns (λ c. search needs) returns-2)

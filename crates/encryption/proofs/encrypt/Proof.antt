@@ -32,7 +32,7 @@ unfolding encryptExit encryptAnswer
 returns c =
     let s = start (c .before) in
     let a = s .args in
-    exit-length (λ x. encryptLeaves x (a .ciphertext .now) (a .used .now) (a .work .now)) (setFrom (a .p)) _ _ _ (s .pre)
+    exit-length (λ x. encryptLeaves x (a .ciphertext .now) (a .used .now) (a .dropped-groups .now) (a .work .now)) (setFrom (a .p)) _ _ _ (s .pre)
     (sym (c .before .encrypt-exact .ensures) ∙ not-true _ (c .if1 .taken))
 
 exact : (c : tie.Else1) →
@@ -48,8 +48,8 @@ returns-2 c =
     let s = start (e .before) in
     let a = s .args in
     let p = setFrom (a .p) in
-    leaves-refused (a .ciphertext .now) (a .used .now) (a .work .now) 7 (c .before .before .cleared .ensures)
-    ∙ exit-refused (λ x. encryptLeaves x (a .ciphertext .now) (a .used .now) (a .work .now)) p _ _ _ (s .pre) (exact e) 6
+    leaves-refused (a .ciphertext .now) (a .used .now) (a .dropped-groups .now) (a .work .now) 7 (c .before .before .cleared .ensures)
+    ∙ exit-refused (λ x. encryptLeaves x (a .ciphertext .now) (a .used .now) (a .dropped-groups .now) (a .work .now)) p _ _ _ (s .pre) (exact e) 6
     (later-padding p (a .public .now) (a .message .now) (a .random .now) (paddingNumber-refused _ _ (λ z. t .if2 .taken (t .before .padding .ensures ∙ z))))
 
 padded : (c : tie.Else2) → paddingClear (start (lengths (c .before) .before) .args .p .mlen) (start (lengths (c .before) .before) .args .message .now) ≡ true
@@ -68,15 +68,15 @@ returns-3 c =
     let s = start (e .before) in
     let a = s .args in
     let p = setFrom (a .p) in
-    leaves-refused (a .ciphertext .now) (a .used .now) (a .work .now) 8 (c .before .before .cleared2 .ensures)
-    ∙ exit-refused (λ x. encryptLeaves x (a .ciphertext .now) (a .used .now) (a .work .now)) p _ _ _ (s .pre) (exact e) 7
+    leaves-refused (a .ciphertext .now) (a .used .now) (a .dropped-groups .now) (a .work .now) 8 (c .before .before .cleared2 .ensures)
+    ∙ exit-refused (λ x. encryptLeaves x (a .ciphertext .now) (a .used .now) (a .dropped-groups .now) (a .work .now)) p _ _ _ (s .pre) (exact e) 7
     (later-coefficient p (a .public .now) (a .message .now) (a .random .now) (padded (padding (t .before)))
     (judged-refused p (accepted-set p (s .pre)) _ (a .public .now) (encryptExact-told p (exact e) .0) (t .before .before .octets-of-coefficient .ensures) (t .before .judge .ensures) (t .if3 .taken)))
 
 encrypt-judged-requires : tie.Need-encrypt-judged-requires
 unfolding publicLength
 encrypt-judged-requires c κs =
-    let t = c .before .before .before in
+    let t = c .before .before .before .before in
     let e = lengths (padding (t .before) .before) in
     let s = start (e .before) in
     let p = setFrom (s .args .p) in

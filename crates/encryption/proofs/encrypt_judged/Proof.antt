@@ -5,7 +5,7 @@ use native.Mathlib.Nat.{mul-le-mul}
 use native.Mathlib.Omega.{arith}
 use mathlib.Core.Path.{_≡_, _∙_, ap}
 use borrow.Author.Needs.{needs}
-use lib.ListN.{length, replicate}
+use lib.ListN.{replicate}
 use Rattle.definitions.specs.Calls.{encryptAnswer, encryptExit, encryptLeaves, encryptUsed}
 use Rattle.definitions.proofs.Parameters.{accepted-set}
 use Rattle.definitions.proofs.Calls.{encryptExact-told}
@@ -34,6 +34,10 @@ first c = start (run c)
 abbrev noiseFrom : tie.After-octets-of-coefficient → ℕ
 noiseFrom c = c .octets-of-coefficient .result * c .before .before .groups .given .0 .0
 
+-- the groups that the run dropped
+abbrev dropped : tie.After-octets-of-coefficient → ℕ
+dropped c = c .before .before .groups .given .0 .1 .0
+
 abbrev noiseTo : tie.After-small-length → ℕ
 noiseTo c = noiseFrom (known c) + c .before .monomial-count .result * c .small-length .result
 
@@ -50,13 +54,13 @@ returns c =
     let s = start call in
     let a = s .args in
     let p = setFrom (a .p) in
-    leaves-refused (a .ciphertext .now) (a .used .now) (a .work .now) 9
+    leaves-refused (a .ciphertext .now) (a .used .now) (a .dropped-groups .now) (a .work .now) 9
     (c .before .before .cleared .ensures .0, c .before .before .cleared .ensures .1 ∙ ap (λ (n : ℕ). replicate n 0) (call .draw-mask .kept .1 .1 .0))
-    ∙ exit-refused (λ x. encryptLeaves x (a .ciphertext .now) (a .used .now) (a .work .now)) p _ _ _ (s .pre .set) (s .pre .exact) 8
+    ∙ exit-refused (λ x. encryptLeaves x (a .ciphertext .now) (a .used .now) (a .dropped-groups .now) (a .work .now)) p _ _ _ (s .pre .set) (s .pre .exact) 8
     (later-mask p (a .public .now) (a .message .now) (a .random .now) (s .pre .padded) (s .pre .fits) (said-exhausted _ _ (told .enum-told .given .1) (call .draw-mask .ensures)))
 
 -- the drawn mask
-mask : (c : tie.After-octets-of-coefficient) → MaskDrawn (setFrom (first c .args .p)) (first c .args .random .now) (noiseFrom c) (run c .draw-mask .last .1 .1 .0)
+mask : (c : tie.After-octets-of-coefficient) → MaskDrawn (setFrom (first c .args .p)) (first c .args .random .now) (noiseFrom c) (dropped c) (run c .draw-mask .last .1 .1 .0)
 mask c = mask-told (setFrom (first c .args .p)) (first c .args .random .now) _ (c .before .before .groups .given .1) (run c .draw-mask .ensures) (c .octets-of-coefficient .ensures)
 
 mul-start : tie.Need-mul-start
@@ -94,9 +98,9 @@ returns-2 c =
     let s = first k in
     let a = s .args in
     let p = setFrom (a .p) in
-    leaves-refused (a .ciphertext .now) (a .used .now) (a .work .now) 9
+    leaves-refused (a .ciphertext .now) (a .used .now) (a .dropped-groups .now) (a .work .now) 9
     (c .before .before .cleared2 .ensures .0, c .before .before .cleared2 .ensures .1 ∙ ap (λ (n : ℕ). replicate n 0) (run k .draw-mask .kept .1 .1 .0))
-    ∙ exit-refused (λ x. encryptLeaves x (a .ciphertext .now) (a .used .now) (a .work .now)) p _ _ _ (s .pre .set) (s .pre .exact) 8
+    ∙ exit-refused (λ x. encryptLeaves x (a .ciphertext .now) (a .used .now) (a .dropped-groups .now) (a .work .now)) p _ _ _ (s .pre .set) (s .pre .exact) 8
     (later-noise p (a .public .now) (a .message .now) (a .random .now) (s .pre .padded) (s .pre .fits) (mask k .enough) (omega (arith, counted (t .before), t .if1 .taken)))
 
 part-write-elements-start : tie.Need-part-write-elements-start
@@ -125,13 +129,13 @@ returns-3 c =
     let a = s .args in
     let p = setFrom (a .p) in
     let within = mask-within (mask k) in
-    leaves-accepted (a .ciphertext .now) (a .used .now) (a .work .now) _ (
+    leaves-accepted (a .ciphertext .now) (a .used .now) (a .dropped-groups .now) (a .work .now) _ (
       c .before .before .cleared3 .ensures .0,
       c .before .before .cleared3 .ensures .1 ∙ ap (λ (n : ℕ). replicate n 0) (call .write-elements .kept .1 .1 .1 .1 .1 .0 ∙ run k .draw-mask .kept .1 .1 .0),
     )
     (call .write-elements .ensures ∙ ciphertext-same (s .pre) (mask k) _ (noise-lent (a .random .now) within))
-    (counted (t .before))
-    ∙ exit-accepted (λ x. encryptLeaves x (a .ciphertext .now) (a .used .now) (a .work .now)) p _ _ _ (s .pre .set) (s .pre .exact)
+    (counted (t .before)) (mask k .counted)
+    ∙ exit-accepted (λ x. encryptLeaves x (a .ciphertext .now) (a .used .now) (a .dropped-groups .now) (a .work .now)) p _ _ _ (s .pre .set) (s .pre .exact)
     (later-passed p (a .public .now) (a .message .now) (a .random .now) (s .pre .padded) (s .pre .fits) (mask k .enough) (omega (arith, counted (t .before), t .if1 .left)))
 
 pub encrypt-judged-spec : {M : Type 1} → statement M

@@ -24,7 +24,7 @@ returns : tie.Need-returns
 returns c =
     let s = start (c .before) in
     let a = s .args in
-    keygen-length (setFrom (a .p)) (a .random .now) (a .secret .now) (a .public .now) (a .used .now) (a .work .now) (s .pre)
+    keygen-length (setFrom (a .p)) (a .random .now) (a .secret .now) (a .public .now) (a .used .now) (a .dropped-groups .now) (a .work .now) (s .pre)
     (sym (c .before .keys-exact .ensures) ∙ not-true _ (c .if1 .taken))
 
 returns-2 : tie.Need-returns-2
@@ -32,12 +32,12 @@ returns-2 c =
     let l = c .before .before .before .before in
     let s = start (l .before .before .before) in
     let a = s .args in
-    keygen-short (setFrom (a .p)) (a .random .now) (a .secret .now) (a .public .now) (a .used .now) (a .work .now) (s .pre) (exact (l .before .before))
+    keygen-short (setFrom (a .p)) (a .random .now) (a .secret .now) (a .public .now) (a .used .now) (a .dropped-groups .now) (a .work .now) (s .pre) (exact (l .before .before))
     (omega (arith, l .if2 .taken, l .before .secret-length .ensures)) (c .before .before .cleared .ensures)
 
 keygen-counted-requires : tie.Need-keygen-counted-requires
 keygen-counted-requires c κs =
-    let l = c .before .before .before .before in
+    let l = c .before .before .before .before .before in
     (start (l .before .before .before) .pre, exact (l .before .before), omega (arith, l .if2 .left, l .before .secret-length .ensures))
 
 pub keygen-spec : {M : Type 1} → statement M

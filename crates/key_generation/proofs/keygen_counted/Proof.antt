@@ -62,7 +62,7 @@ returns c =
     let d = c .before .before .before .before .before .before .before .before in
     let s = start (halves d) in
     let a = s .args in
-    keygen-exhausted (setFrom (a .p)) (a .random .now) (a .secret .now) (a .public .now) (a .used .now) (a .work .now) (s .pre .0) (s .pre .1) (s .pre .2)
+    keygen-exhausted (setFrom (a .p)) (a .random .now) (a .secret .now) (a .public .now) (a .used .now) (a .dropped-groups .now) (a .work .now) (s .pre .0) (s .pre .1) (s .pre .2)
     (said-exhausted _ _ (c .before .before .before .before .enum-told .given .1) (d .draw-terms .ensures .0))
     (end .0, end .1 ∙ ap (λ (m : ℕ). replicate m 0) (as-long d))
 
@@ -71,10 +71,14 @@ secret : (c : tie.After-draw-terms)
     → HalvesDrawn (setFrom (start (halves c) .args .p)) (start (halves c) .args .random .now) (c .draw-terms .last .1 .1 .0)
 secret c = halves-kept _ _ _ (halves c .draw-halves .last .1 .1 .0) (halves c .draw-halves .ensures) (c .draw-terms .ensures .1)
 
+-- the groups that the run dropped
+abbrev dropped : tie.After-known-told → ℕ
+dropped c = c .before .groups .given .0 .1 .0
+
 terms : (c : tie.After-known-told)
     → (let s = start (halves (drawn c)) in
     keyDraws (setFrom (s .args .p)) (s .args .random .now)
-    ≡ record { values = wordsTerms (setFrom (s .args .p)) (drawn c .draw-terms .last .1 .1 .0); groups = c .before .groups .given .0 .0; enough = true })
+    ≡ record { values = wordsTerms (setFrom (s .args .p)) (drawn c .draw-terms .last .1 .1 .0); groups = c .before .groups .given .0 .0; dropped = dropped c; enough = true })
 terms c = said-complete _ _ (c .before .groups .given .1) (drawn c .draw-terms .ensures .0)
 
 ready : (c : tie.After-known-told) → KeyWords (setFrom (start (halves (drawn c)) .args .p)) (drawn c .draw-terms .last .1 .1 .0)
@@ -82,7 +86,7 @@ ready c =
     let d = drawn c in
     let s = start (halves d) in
     key-words (setFrom (s .args .p)) (s .args .random .now) _ (s .pre .0) (as-long d ∙ exact s .2) (secret d)
-    (ap (λ (x : Drawn). x .values) (sym (terms c)))
+    (ap (λ (x : Drawn ℕ). x .values) (sym (terms c)))
 
 write-secret-requires : tie.Need-write-secret-requires
 write-secret-requires c κs = let k = c .before .before in (ready k, exact (start (halves (drawn k))) .0)
@@ -103,7 +107,7 @@ fits c =
     let k = told (first (second (c .before))) in
     let s = start (halves (drawn k)) in
     let p = setFrom (s .args .p) in
-    omega (arith, counted c, used-room p (s .args .random .now) (s .pre .2), ap (λ (x : Drawn). qlen (p .q) * x .groups) (terms k), s .good .1 .0 .1)
+    omega (arith, counted c, used-room p (s .args .random .now) (s .pre .2), ap (λ (x : Drawn ℕ). qlen (p .q) * x .groups) (terms k), s .good .1 .0 .1)
 
 mul-taken : tie.Need-mul-taken
 mul-taken c = omega (arith, fits c)
@@ -120,8 +124,8 @@ returns-2 c =
     let d = drawn k in
     let s = start (halves d) in
     let a = s .args in
-    keygen-written (setFrom (a .p)) (a .random .now) (a .secret .now) (a .public .now) (a .used .now) (a .work .now) (s .pre .0) (s .pre .1) (s .pre .2)
-    (d .draw-terms .last .1 .1 .0) _ (secret d) (terms k) (first public .write-secret .ensures) (public .write-public .ensures) (counted o)
+    keygen-written (setFrom (a .p)) (a .random .now) (a .secret .now) (a .public .now) (a .used .now) (a .dropped-groups .now) (a .work .now) (s .pre .0) (s .pre .1) (s .pre .2)
+    (d .draw-terms .last .1 .1 .0) _ _ (secret d) (terms k) (first public .write-secret .ensures) (public .write-public .ensures) (counted o)
     (end .0, end .1 ∙ ap (λ (m : ℕ). replicate m 0) (public .write-public .kept .1 .1 .0 ∙ as-long d))
 
 pub keygen-counted-spec : {M : Type 1} → statement M

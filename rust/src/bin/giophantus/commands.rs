@@ -6,7 +6,7 @@ use std::fs::File;
 use std::io::{self, Read, Write};
 use std::path::Path;
 
-use giophantus::{Ciphertext, Element, Error, Message, Parameters, PublicKey, SecretKey};
+use giophantus::{Ciphertext, Element, Error, Message, Parameters, PublicKey, RandomUse, SecretKey};
 
 use crate::failure::Failure;
 use crate::files;
@@ -36,7 +36,7 @@ pub fn keygen(options: &Options) -> Done {
     let keys = set.keygen_from(random).map_err(|error| Failure::refused(name, error))?;
     files::write_secret(secret_path, keys.secret_key.as_ref())?;
     files::write_octets(public_path, keys.public_key.as_ref())?;
-    say_used(options, keys.used);
+    say_used(options, &set, keys.used);
     Ok(())
 }
 
@@ -66,7 +66,7 @@ pub fn encrypt(options: &Options) -> Done {
     let encrypted = PublicKey::encrypt_from(&public_key, &message, random);
     let encrypted = encrypted.map_err(|error| Failure::refused(name, error))?;
     files::write_octets(out(options), encrypted.ciphertext.as_ref())?;
-    say_used(options, encrypted.used);
+    say_used(options, &set, encrypted.used);
     Ok(())
 }
 
@@ -138,7 +138,8 @@ pub fn limits(options: &Options) -> Done {
         0 => "none: a set for blank fields".to_owned(),
         count => format!("{count} in a message, each 0 to {}", set.l() - 1),
     };
-    let rows: [(&str, &dyn Display); 10] = [
+    let uses = |fixed| format!("{fixed} random octets, and {} for each group dropped", set.coefficient_len());
+    let rows: [(&str, &dyn Display); 12] = [
         ("set", &set),
         ("bound", &set.bound()),
         ("headroom", &set.headroom()),
@@ -149,6 +150,8 @@ pub fn limits(options: &Options) -> Done {
         ("ciphertext octets", &set.ciphertext_len()),
         ("ring element octets", &set.element_len()),
         ("small element octets", &set.small_len()),
+        ("keygen uses", &uses(set.keygen_fixed_octets())),
+        ("encrypt uses", &uses(set.encryption_fixed_octets())),
     ];
     files::print(&rows.iter().map(|(name, value)| format!("{name:<20} {value}\n")).collect::<String>())
 }
@@ -329,11 +332,20 @@ fn random(options: &Options) -> Result<(Box<dyn Read>, String), Failure> {
     Ok((Box::new(system), SYSTEM_RANDOM.to_owned()))
 }
 
-/// Where random octets came from a file of the person's, says how many were used.
-fn say_used(options: &Options, used: usize) {
+/// Where random octets came from a file of the person's, says how many were used, and how many groups among them were
+/// dropped.
+fn say_used(options: &Options, set: &Parameters, used: RandomUse) {
     if options.value("--random").is_some() {
-        let _ = writeln!(io::stderr(), "giophantus: {used} random octets used");
+        let groups = counted(used.dropped_groups, "group");
+        let each = counted(set.coefficient_len(), "octet");
+        let _ = writeln!(io::stderr(), "giophantus: {} random octets used, {groups} of {each} dropped", used.octets);
     }
+}
+
+/// A number of things, in the singular where it is 1.
+fn counted(number: usize, thing: &str) -> String {
+    let plural = if number == 1 { "" } else { "s" };
+    format!("{number} {thing}{plural}")
 }
 
 /// Where the result goes.

@@ -10,7 +10,7 @@ usage: giophantus COMMAND [OPTION..] [FILE..]
   add            add ciphertexts without decrypting them
   decrypt        decrypt a ciphertext or a sum
   is-zero        say whether a secret key is a zero of a public key
-  limits         print the bound, the headroom and the lengths of a set
+  limits         print the bound, the headroom, the lengths and the random octets of a set
   multiply-add   multiply two ring elements and add a third
   convert        turn octets into coefficient words, or words into octets
 
@@ -40,8 +40,13 @@ usage: giophantus keygen --set SET --secret-key FILE --public-key FILE [--random
   --secret-key FILE   where the secret key goes; only its owner may read it
   --public-key FILE   where the public key goes
   --random FILE       the random octets; without it they come from the system (/dev/urandom). It is said
-                      how many were used, from the front: use them for nothing else
+                      how many were used, from the front, and how many groups among them were dropped:
+                      use them for nothing else
   --force             replace key files that are there already
+
+A coefficient is drawn from a group of octets. Where its number, modulo 2 to the bit length of q, is q or
+more, the group is dropped, which is no fault, and the next is taken. `giophantus limits` says how many
+octets are used where no group is dropped, and how many more for each that is.
 
 Refusals: 11, 1 to 5 for the set; 9 where the random octets end too early.
 ";
@@ -59,8 +64,11 @@ usage: giophantus encrypt --set SET --public-key FILE (--counts LIST | --message
   --message FILE      the counts as a packed message instead
   --blank             a field that was left blank: the set must have mlen 0. Zeros are counts and no blank
   --random FILE       the random octets; without it they come from the system (/dev/urandom). It is said
-                      how many were used, from the front: use them for nothing else
+                      how many were used, from the front, and how many groups among them were dropped:
+                      use them for nothing else
   --out FILE          where the ciphertext goes; without it to standard output
+
+Groups are dropped as by keygen, and `giophantus limits` says the same of encrypt.
 
 Refusals: 11, 1 to 5 for the set; 6, 7 or 8 for the public key or the counts; 9 where the random octets
 end too early.
@@ -109,14 +117,15 @@ It prints yes or no; the exit status is 0 for both. Refusals: 11, 1 to 5 for the
 ";
 
 pub const LIMITS: &str = "\
-giophantus limits: print the bound, the headroom and the lengths of a set
+giophantus limits: print the bound, the headroom, the lengths and the random octets of a set
 
 usage: giophantus limits --set SET
 
   --set SET   six numbers: l q n dX dr mlen
 
 The bound B is the most that one fresh ciphertext takes of q; the headroom is the largest s with
-s x B < q, the number of ciphertexts that may be added. Refusals: 11, 1 to 5.
+s x B < q, the number of ciphertexts that may be added. The last two lines say how many random octets
+are used where no group is dropped, and how many more for each that is. Refusals: 11, 1 to 5.
 ";
 
 pub const MULTIPLY_ADD: &str = "\

@@ -152,6 +152,7 @@ impl Answers {
             ("secret_key", hex(&keys.secret_key)),
             ("public_key", hex(&keys.public_key)),
             ("used", keys.used.to_string()),
+            ("dropped_groups", keys.dropped_groups.to_string()),
         ];
         self.record("keygen", set, &given, keys.number, &written);
         keys
@@ -193,6 +194,7 @@ impl Answers {
         let written = [
             ("ciphertext", hex(&made.ciphertext)),
             ("used", made.used.to_string()),
+            ("dropped_groups", made.dropped_groups.to_string()),
         ];
         self.record("encrypt", set, &given, made.number, &written);
         made
@@ -917,6 +919,122 @@ fn products(directory: &Path) {
     file.write(directory);
 }
 
+/// The least q of all; q just above a power of two, of each qlen, so that nearly half of all groups are dropped; the
+/// largest q, where the group of q itself is the only one dropped.
+const DRAWS: [Set; 10] = [
+    set(2, 36, 2, 1, 1, 2),
+    set(2, 65, 2, 1, 1, 2),
+    set(2, 129, 2, 2, 1, 1),
+    set(2, 257, 5, 1, 1, 5),
+    set(2, 32_769, 3, 2, 2, 3),
+    set(2, 65_537, 40, 1, 1, 33),
+    set(4, 8_388_609, 3, 1, 2, 0),
+    set(8, 16_777_217, 5, 1, 1, 15),
+    set(16, 1_073_741_825, 3, 2, 1, 8),
+    set(4, MOST_Q, 4, 2, 2, 8),
+];
+
+/// Octets for draws of any numbers below q, with so many dropped groups before each.
+fn drawn(file: &mut Answers, set: Set, before: &[usize]) -> Vec<u8> {
+    let mut found = Vec::new();
+    for &groups in before {
+        found.extend(dropped(file, set, groups));
+        let number = file.run.prng.below(u64::from(set.q)) as u32;
+        found.extend(inputs::group(set, number, &mut file.run.prng));
+    }
+    found
+}
+
+fn dropped(file: &mut Answers, set: Set, groups: usize) -> Vec<u8> {
+    let prng = &mut file.run.prng;
+    let group = |_| inputs::dropped_group(set, prng);
+    (0..groups).flat_map(group).collect()
+}
+
+fn small_draws(file: &mut Answers, set: Set, elements: usize) -> Vec<u8> {
+    let prng = &mut file.run.prng;
+    let small = |_| inputs::small_draw(set, prng);
+    (0..elements).flat_map(small).collect()
+}
+
+/// Groups are dropped before the first draw alone, between two elements alone, before the last draw alone, and before
+/// every draw.
+fn places_of_dropped(set: Set, elements: usize) -> [Vec<usize>; 4] {
+    let draws = elements * set.places();
+    let [first, between, last] = [0, set.places(), draws - 1].map(|draw| {
+        let mut before = vec![0; draws];
+        before[draw] = 2;
+        before
+    });
+    [first, between, last, vec![1; draws]]
+}
+
+/// Octets that end right after a group that is dropped before the first draw, between two elements and before the
+/// last draw, and in the middle of the group after it, where that is more than one octet.
+fn ended_after_dropped(file: &mut Answers, set: Set, elements: usize) -> Vec<Vec<u8>> {
+    let mut found = Vec::new();
+    for draw in [0, set.places(), elements * set.places() - 1] {
+        let ended = [drawn(file, set, &vec![0; draw]), dropped(file, set, 1)].concat();
+        let next = drawn(file, set, &[0]);
+        found.extend((0..set.qlen().min(2)).map(|more| [&ended, &next[..more]].concat()));
+    }
+    found
+}
+
+/// Any octets, cut after the last one that is used; dropped groups; octets that end after one.
+fn dropped_in_keygen(file: &mut Answers, set: Set) {
+    let (elements, lengths) = (count(set.dx) - 1, KeygenLengths::of(set));
+    let any = file.run.prng.octets(8 * set.public_key_octets() + 64);
+    let used = compare::keygen(&mut file.run, set, &any, lengths).used;
+    file.keygen(set, &any[..used as usize], lengths);
+    let secret = small_draws(file, set, 2);
+    for before in places_of_dropped(set, elements) {
+        let random = [secret.clone(), drawn(file, set, &before)].concat();
+        file.keygen(set, &random, lengths);
+    }
+    for ended in ended_after_dropped(file, set, elements) {
+        file.keygen(set, &[secret.clone(), ended].concat(), lengths);
+    }
+}
+
+/// The same in encrypt, and noise that is missing.
+fn dropped_in_encrypt(file: &mut Answers, set: Set) {
+    let (elements, lengths) = (count(set.dr), EncryptLengths::of(set));
+    let key = inputs::public_key(set, &mut file.run.prng);
+    let message = inputs::message(set, &mut file.run.prng);
+    let any = file.run.prng.octets(8 * set.ciphertext_octets() + 64);
+    let used = compare::encrypt(&mut file.run, set, &key, &message, &any, lengths).used;
+    file.encrypt(set, &key, &message, &any[..used as usize], lengths);
+    let noise = small_draws(file, set, count(set.d()));
+    for before in places_of_dropped(set, elements) {
+        let random = [drawn(file, set, &before), noise.clone()].concat();
+        file.encrypt(set, &key, &message, &random, lengths);
+    }
+    let without = drawn(file, set, &vec![1; elements * set.places()]);
+    file.encrypt(set, &key, &message, &without, lengths);
+    for ended in ended_after_dropped(file, set, elements) {
+        file.encrypt(set, &key, &message, &ended, lengths);
+    }
+}
+
+fn draws(directory: &Path) {
+    let mut file = Answers::new("draws");
+    // Document 01's cases 2 and 3 with 1459, which is dropped: after the secret key's octets; in front and before the
+    // third pair.
+    let group = [0xB3, 0x05];
+    let (secret, others) = KEY_RANDOM.split_at(2);
+    let random = [secret, &group, others].concat();
+    let keys = file.keygen(A, &random, KeygenLengths::of(A));
+    let (two_pairs, others) = RANDOM.split_at(4);
+    let random = [&group, two_pairs, &group, others].concat();
+    file.encrypt(A, &keys.public_key, &[0x0E], &random, EncryptLengths::of(A));
+    for set in DRAWS {
+        dropped_in_keygen(&mut file, set);
+        dropped_in_encrypt(&mut file, set);
+    }
+    file.write(directory);
+}
+
 /// Each call once, refusals that need no long input, and the conversions. Random octets are any,
 /// cut after the last one that is used.
 fn large(directory: &Path, name: &'static str, set: Set) {
@@ -974,6 +1092,7 @@ fn main() {
     conversions(directory, "secret_key_conversions", &[secret_key]);
     sums(directory);
     products(directory);
+    draws(directory);
     for (name, set) in LARGE {
         large(directory, name, set);
     }

@@ -7,9 +7,10 @@ use differential::compare::{
     add, decrypt, double, encrypt, is_zero, DecryptLengths, EncryptLengths,
 };
 use differential::run::{run_group, Run};
+use differential::sets::sets_of;
 use differential::sums::{
-    all_but_one, meeting, mixed_summands, packed, polynomial, powers_of_t, rest, sets_of, summand,
-    summands, totals, turned, turned_back, Elements, Parts, MODULI,
+    all_but_one, meeting, mixed_summands, packed, polynomial, powers_of_t, rest, summand, summands,
+    totals, turned, turned_back, Elements, Parts, MODULI,
 };
 use reference::monomials::{count, monomials, position};
 use reference::octets::{numbers_to_octets, pack};

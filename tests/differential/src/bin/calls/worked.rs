@@ -1,4 +1,4 @@
-//! The worked list of 01, cases 1 to 9, octet by octet.
+//! The worked list of 01, cases 1 to 9, octet by octet, and how many groups are dropped.
 
 use differential::compare::{
     decrypt, encrypt, is_zero, keygen, DecryptLengths, EncryptLengths, KeygenLengths,
@@ -29,12 +29,22 @@ pub fn all(run: &mut Run) {
     case_9(run);
 }
 
-fn try_encrypt(run: &mut Run, set: Set, key: &[u8], message: &[u8], random: &[u8]) -> (u32, u64) {
+/// 1459, which is dropped.
+const DROPPED: [u8; 2] = [0xB3, 0x05];
+
+/// The number, and the octets used and the dropped groups.
+fn try_encrypt(
+    run: &mut Run,
+    set: Set,
+    key: &[u8],
+    message: &[u8],
+    random: &[u8],
+) -> (u32, [u64; 2]) {
     let made = encrypt(run, set, key, message, random, EncryptLengths::of(set));
     if made.number == 0 && key == PUBLIC_KEY && set == A {
         run.expect(made.ciphertext == CIPHERTEXT, set, "cases 3 and 5");
     }
-    (made.number, made.used)
+    (made.number, [made.used, made.dropped_groups])
 }
 
 /// (1 + 2t) * (5 + 7t) = 19 + 17t, as the constant of key times r.
@@ -48,10 +58,15 @@ fn case_1(run: &mut Run) {
 }
 
 fn cases_2_and_6(run: &mut Run) {
-    let keys = keygen(run, A, &KEY_RANDOM, KeygenLengths::of(A));
-    run.expect(keys.number == 0 && keys.used == 10, A, "case 2");
-    let right = keys.secret_key == SECRET_KEY && keys.public_key == PUBLIC_KEY;
-    run.expect(right, A, "case 2");
+    let (secret, others) = KEY_RANDOM.split_at(2);
+    let dropped = [secret, &DROPPED, others].concat();
+    for (random, wanted) in [(&KEY_RANDOM[..], [10, 0]), (&dropped, [12, 1])] {
+        let keys = keygen(run, A, random, KeygenLengths::of(A));
+        let right = keys.number == 0 && [keys.used, keys.dropped_groups] == wanted;
+        run.expect(right, A, "case 2, and with 1459 dropped");
+        let right = keys.secret_key == SECRET_KEY && keys.public_key == PUBLIC_KEY;
+        run.expect(right, A, "case 2, and with 1459 dropped");
+    }
     let (number, zero) = is_zero(run, A, &SECRET_KEY, &PUBLIC_KEY, A.work_words());
     run.expect(
         (number, zero) == (0, 1),
@@ -67,7 +82,7 @@ fn cases_2_and_6(run: &mut Run) {
 
 fn cases_3_to_6(run: &mut Run) {
     let answer = try_encrypt(run, A, &PUBLIC_KEY, &[0x0E], &RANDOM);
-    run.expect(answer == (0, 18), A, "case 3");
+    run.expect(answer == (0, [18, 0]), A, "case 3");
 
     let (number, message) = decrypt(run, A, &SECRET_KEY, &CIPHERTEXT, DecryptLengths::of(A));
     run.expect(number == 0 && message == [0x0E], A, "case 4");
@@ -79,10 +94,14 @@ fn cases_3_to_6(run: &mut Run) {
     let mut random = RANDOM;
     random[1] = 0x08;
     let answer = try_encrypt(run, A, &PUBLIC_KEY, &[0x0E], &random);
-    run.expect(answer == (0, 18), A, "case 5, 2049");
-    let random = [[0xB3, 0x05].as_slice(), &RANDOM].concat();
+    run.expect(answer == (0, [18, 0]), A, "case 5, 2049");
+    let random = [&DROPPED[..], &RANDOM].concat();
     let answer = try_encrypt(run, A, &PUBLIC_KEY, &[0x0E], &random);
-    run.expect(answer == (0, 20), A, "case 5, 1459 dropped");
+    run.expect(answer == (0, [20, 1]), A, "case 5, 1459 dropped");
+    let (two_pairs, others) = RANDOM.split_at(4);
+    let random = [&DROPPED, two_pairs, &DROPPED, others].concat();
+    let answer = try_encrypt(run, A, &PUBLIC_KEY, &[0x0E], &random);
+    run.expect(answer == (0, [22, 2]), A, "case 5, 1459 dropped twice");
 
     let (number, _) = try_encrypt(run, A, &PUBLIC_KEY, &[0x0E], &RANDOM[..17]);
     run.expect(number == 9, A, "case 6");
