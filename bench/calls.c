@@ -1,9 +1,10 @@
 /* The library's calls beside the same calls in C over several rings.  Results are compared before
    anything is timed; entries take turns; each time is the minimum of all rounds.
    With -DLIBRARY_ONLY the library has no peers, addition, whose peers are in copies.c, is among the calls, and
-   multiply_add, which earlier libraries lack, is not.  Libraries of before document 02's Q-1 count no dropped groups:
-   their keygen and encrypt are given one last argument more than they take.  C itself doesn't define that; where the caller
-   removes the arguments, as on x86-64 and AArch64, they are right all the same and leave the number alone.
+   multiply_add, which earlier libraries lack, is not.  Libraries of before document 02's Q-1 count no dropped groups, and
+   those of before its Q-3 no dropped elements: their keygen and encrypt are given a last argument or two more than they
+   take.  C itself doesn't define that; where the caller removes the arguments, as on x86-64 and AArch64, they are right all
+   the same and leave the numbers alone.
    Usage: calls [TIMES.csv] */
 
 #include <stdio.h>
@@ -46,7 +47,7 @@ static uint32_t words[MAX_ELEMENTS * MAX_N]; /* the ciphertext's */
 static struct outputs {
     uint8_t secret_key[MAX_N], public_key[MAX_OCTETS], message[MAX_N / 2], ciphertext[MAX_OCTETS];
     uint32_t element[MAX_N];
-    uint64_t used, dropped_groups;
+    uint64_t used, dropped_groups, dropped_elements;
 } out;
 static uint32_t work[8 * MAX_N];
 static size_t secret_length, public_length, message_length, ciphertext_length;
@@ -55,9 +56,11 @@ static void run_keygen(size_t i)
 {
     if (entries[i].ring == NULL)
         must(set, giophantus_keygen(SET, random_octets, sizeof random_octets, out.secret_key, secret_length,
-                                    out.public_key, public_length, work, 8 * set->n, &out.used, &out.dropped_groups));
+                                    out.public_key, public_length, work, 8 * set->n, &out.used, &out.dropped_groups,
+                                    &out.dropped_elements));
     else
-        out.used = peer_keygen(entries[i].ring, set, random_octets, out.secret_key, out.public_key, &out.dropped_groups);
+        out.used = peer_keygen(entries[i].ring, set, random_octets, out.secret_key, out.public_key, &out.dropped_groups,
+                               &out.dropped_elements);
 }
 
 static void run_is_zero(size_t i)

@@ -1,4 +1,4 @@
-/* The calls of document 01 in plain C over any of the rings of ring.h. */
+/* The calls of documents 01 and 02 in plain C over any of the rings of ring.h. */
 
 #include <string.h>
 
@@ -158,6 +158,19 @@ static const uint8_t *draw_element(const struct set *s, const uint8_t *random, u
     return random;
 }
 
+/* A small element whose coefficient of t^(n - 1) isn't zero; answers the octets after it, and adds the number of dropped
+   elements. */
+static const uint8_t *draw_secret(const struct set *s, const uint8_t *random, uint32_t *words, uint64_t *dropped_elements)
+{
+    for (;;) {
+        unpack(s, random, s->n, words);
+        random += small_octets(s);
+        if (words[s->n - 1] != 0)
+            return random;
+        ++*dropped_elements;
+    }
+}
+
 static void product(const struct ring *r, const uint32_t *a, const uint32_t *b, uint32_t *words)
 {
     r->load(0, a);
@@ -197,13 +210,14 @@ static void get_secret_key(const struct set *s, const uint8_t *secret_key)
 }
 
 uint64_t peer_keygen(const struct ring *r, const struct set *s, const uint8_t *random, uint8_t *secret_key,
-                     uint8_t *public_key, uint64_t *dropped_groups)
+                     uint8_t *public_key, uint64_t *dropped_groups, uint64_t *dropped_elements)
 {
-    const uint8_t *at = random + 2 * small_octets(s);
+    const uint8_t *at;
     size_t k, last = elements(s->dx) - 1;
 
-    get_secret_key(s, random);
-    *dropped_groups = 0;
+    *dropped_groups = *dropped_elements = 0;
+    at = draw_secret(s, random, u_x, dropped_elements);
+    at = draw_secret(s, at, u_y, dropped_elements);
     for (k = 0; k < last; k++)
         at = draw_element(s, at, made[k], dropped_groups);
     memset(made[last], 0, sizeof made[last]);

@@ -1,4 +1,4 @@
-/* The calls of document 01 in plain C over any of the rings of ring.h: what the library is measured
+/* The calls of documents 01 and 02 in plain C over any of the rings of ring.h: what the library is measured
    against.  Inputs are trusted; nothing is refused. */
 
 #ifndef PEER_H
@@ -33,9 +33,9 @@ uint32_t qlen(const struct set *s);
 uint32_t small_bits(const struct set *s);
 
 /* The ring has been started with the set's n and q.  Keygen and encrypt answer the octets used, and write how many
-   groups were dropped. */
+   groups were dropped; keygen also writes how many elements were. */
 uint64_t peer_keygen(const struct ring *r, const struct set *s, const uint8_t *random, uint8_t *secret_key,
-                     uint8_t *public_key, uint64_t *dropped_groups);
+                     uint8_t *public_key, uint64_t *dropped_groups, uint64_t *dropped_elements);
 int peer_is_zero(const struct ring *r, const struct set *s, const uint8_t *secret_key, const uint8_t *public_key);
 /* Shared: 6 products for 9 (21 for 36), for dX = dr. */
 uint64_t peer_encrypt(const struct ring *r, int shared, const struct set *s, const uint8_t *public_key,

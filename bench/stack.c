@@ -33,7 +33,8 @@ static const struct set *set;
 static uint8_t random_octets[4 * MAX_OCTETS], secret_key[MAX_N], public_key[MAX_OCTETS], message[MAX_N];
 static uint8_t ciphertext[MAX_OCTETS], sum[MAX_OCTETS], decrypted[MAX_N];
 static uint32_t words[MAX_ELEMENTS * MAX_N], small_words[2 * MAX_N], work[8 * MAX_N], bound, headroom, zero;
-static uint64_t secret_length, public_length, message_length, ciphertext_length, work_length, used, dropped_groups;
+static uint64_t secret_length, public_length, message_length, ciphertext_length, work_length;
+static uint64_t used, dropped_groups, dropped_elements;
 
 static uint32_t check(void)
 {
@@ -53,7 +54,7 @@ static uint32_t lengths(void)
 static uint32_t keygen(void)
 {
     return giophantus_keygen(SET, random_octets, sizeof random_octets, secret_key, secret_length, public_key,
-                             public_length, work, work_length, &used, &dropped_groups);
+                             public_length, work, work_length, &used, &dropped_groups, &dropped_elements);
 }
 
 static uint32_t is_zero(void)

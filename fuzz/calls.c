@@ -5,11 +5,11 @@
  * ends, a sequence that it determines goes on. After the call the rules of giophantus.h are held to, and abort() ends the
  * program where one fails:
  *
- *     the number is 0 to 10, and where the lowest refusal is one of 1 to 9, that one: worked out here a second time
+ *     the number is that of the first refusal that applies, 10 apart: worked out here a second time
  *     inputs are unchanged; after a refusal the outputs are too
- *     work words are untouched after 1 to 6 and zero after every other ending
+ *     work words are untouched up to and including the length test and zero after every other ending
  *     no octet outside a buffer is read or written
- *     the dropped groups are those counted here; the octets used are the fixed part and qlen for each of them
+ *     the dropped groups and elements are those counted here; the octets used are the fixed part and theirs
  *     what an accepted encryption under made keys gives decrypts to the message, and a sum to the total modulo l
  *     each coefficient of a sum is the sum modulo q of those added
  *     each coefficient of a * b + c is the one worked out here a second time; where n is large, one of them
@@ -253,17 +253,20 @@ static void keep(void) {
 
 static int unchanged(const struct buffer *b) { return memcmp(b->at, b->old, b->octets) == 0; }
 
+/* Whether a refusal is that of the length test or of one before it. */
+static int untouched(uint32_t number) { return number >= GIOPHANTUS_RANGE && number <= GIOPHANTUS_LENGTH; }
+
 /* The rules that hold after every call. */
 static void settle(uint32_t number) {
-    rule(number <= 10, "the number is above 10");
+    rule(number <= GIOPHANTUS_TAIL || number == GIOPHANTUS_TOP_COEFFICIENT, "no call gives this number");
     for (size_t i = 0; i < made; i++) {
         struct buffer *b = &buffers[i];
         if (b->kind == INPUT)
             rule(unchanged(b), "an input changed");
         else if (b->kind == OUTPUT)
             rule(number == 0 || unchanged(b), "an output changed on a refusal");
-        else if (number >= 1 && number <= 6)
-            rule(unchanged(b), "a work word changed on a refusal with 1 to 6");
+        else if (untouched(number))
+            rule(unchanged(b), "a work word changed on a refusal up to the length test");
         else
             for (size_t j = 0; j < b->octets; j++)
                 rule(b->at[j] == 0, "a work word isn't zero");
@@ -375,6 +378,41 @@ static uint32_t fit_both(struct buffer *packed, size_t used_bits, struct buffer 
     return padding != 0 ? padding : reached;
 }
 
+/* The coefficient of t^(n - 1) of a packed element, where coefficients have so many bits. */
+static uint32_t top(const uint8_t *at, uint32_t n, uint32_t width) {
+    uint32_t c = 0;
+    for (uint32_t j = 0, bit = (n - 1) * width; j < width; j++, bit++)
+        c |= (uint32_t)(at[bit / 8] >> bit % 8 & 1) << j;
+    return c;
+}
+
+static void set_top(uint8_t *at, uint32_t n, uint32_t width, uint32_t c) {
+    for (uint32_t j = 0, bit = (n - 1) * width; j < width; j++, bit++)
+        at[bit / 8] = (uint8_t)((at[bit / 8] & ~(1u << bit % 8)) | (c >> j & 1) << bit % 8);
+}
+
+/* Makes the top coefficients of packed elements fit, mostly; at times one is zero. Gives the refusal that is left. */
+static uint32_t fit_tops(struct buffer *b, uint32_t n, uint32_t width) {
+    uint32_t refusal = 0;
+    for (size_t i = 0; i < b->octets; i += (n * width + 7) / 8) {
+        uint8_t how = octet();
+        if (how >= 64 && top(b->at + i, n, width) == 0)
+            set_top(b->at + i, n, width, 1u << how % width);
+        else if (how < 16)
+            set_top(b->at + i, n, width, 0);
+        if (top(b->at + i, n, width) == 0)
+            refusal = GIOPHANTUS_TOP_COEFFICIENT;
+    }
+    return refusal;
+}
+
+/* Of a secret key and an argument of coefficients below q: padding and coefficients come before top coefficients. */
+static uint32_t fit_secret_and(struct buffer *secret, struct buffer *b, const struct set *s) {
+    uint32_t width = bits(s->l), refusal = fit_both(secret, s->n * width, b, bytes_of(s->q), s->q);
+    uint32_t tops = fit_tops(secret, s->n, width);
+    return refusal != 0 ? refusal : tops;
+}
+
 /* ---- the calls ---- */
 
 enum call {
@@ -389,15 +427,17 @@ static const char *const names[] = {
     "ciphertext_to_octets", "round trip"
 };
 
+#define NUMBERS (GIOPHANTUS_TOP_COEFFICIENT + 1)
+
 /* What libFuzzer is told of the archive, which has no counters: each answer of each call, by set and by kind of set. */
 #ifndef REPLAY
 __attribute__((used, section("__libfuzzer_extra_counters")))
 #endif
-static uint8_t by_set[CALLS][11][TABLE + 1];
+static uint8_t by_set[CALLS][NUMBERS][TABLE + 1];
 #ifndef REPLAY
 __attribute__((used, section("__libfuzzer_extra_counters")))
 #endif
-static uint8_t by_kind[CALLS][11][4][4][2][2];
+static uint8_t by_kind[CALLS][NUMBERS][4][4][2][2];
 
 static void tell(enum call call, uint32_t number, const struct set *s) {
     by_set[call][number][chosen_from] = 1;
@@ -414,8 +454,8 @@ static uint32_t product_at(const struct buffer *a, const struct buffer *b, uint3
 }
 
 /* c becomes a * b + c, of n words each. The product is worked out at every place, or at one where n is large. Gives the
-   number, and in *low the refusal of a coefficient. */
-static uint32_t multiply_add(const struct set *s, int accepted, uint32_t n, uint32_t *low) {
+   number, and in *unfit the refusal of a coefficient. */
+static uint32_t multiply_add(const struct set *s, int accepted, uint32_t n, uint32_t *unfit) {
     struct buffer *a = sized(INPUT, n, 4), *b = octet() & 1 ? a : sized(INPUT, n, 4), *c = sized(OUTPUT, n, 4);
     struct buffer *product = buffer(INPUT, 4 * n); /* it isn't passed */
     uint32_t where = n > PRODUCT_N ? octet() % 3 : 0, step = n > PRODUCT_N ? n : 1;
@@ -423,13 +463,13 @@ static uint32_t multiply_add(const struct set *s, int accepted, uint32_t n, uint
     int fit = accepted && !wrong_length;
     memset(product->at, 0, product->octets);
     if (fit) {
-        *low = fit_coefficients(a, 4, s->q);
+        *unfit = fit_coefficients(a, 4, s->q);
         if (b != a && fit_coefficients(b, 4, s->q) != 0)
-            *low = GIOPHANTUS_COEFFICIENT;
+            *unfit = GIOPHANTUS_COEFFICIENT;
         for (uint32_t k = first; k < n; k += step)
             set_coefficient(product, k, 4, product_at(a, b, n, s->q, k));
         if (fit_summand(c, product, 4, s->q) != 0)
-            *low = GIOPHANTUS_COEFFICIENT;
+            *unfit = GIOPHANTUS_COEFFICIENT;
     }
     keep();
     uint32_t number = giophantus_multiply_add(SET(s), WORDS(a), WORDS(b), WORDS(c));
@@ -442,58 +482,89 @@ static uint32_t multiply_add(const struct set *s, int accepted, uint32_t n, uint
     return number;
 }
 
-/* Random octets: enough of them mostly, with room for groups that are dropped. */
-static struct buffer *random_octets(size_t needed) {
-    uint8_t how = octet();
-    size_t n = how < 16 ? needed - needed % (1u + octet()) : how < 32 ? octet() : 4 * needed + 64;
-    return buffer(INPUT, n);
-}
-
-/* What a call takes from its random octets: octets of small elements, draws below q, octets of small elements. */
+/* What a call takes from its random octets: elements of a secret key, draws below q, elements of the noise. */
 struct draws {
-    size_t before, count, after;
-    uint32_t q;
+    size_t secrets, count, noise;
+    const struct set *s;
 };
 
 static struct draws keygen_draws(const struct set *s) {
-    size_t small = (s->n * bits(s->l) + 7) / 8;
-    return (struct draws){2 * small, (size_t)(places(s->dx) - 1) * s->n, 0, s->q};
+    return (struct draws){2, (size_t)(places(s->dx) - 1) * s->n, 0, s};
 }
 
 static struct draws encrypt_draws(const struct set *s) {
-    size_t small = (s->n * bits(s->l) + 7) / 8;
-    return (struct draws){0, (size_t)places(s->dr) * s->n, places(s->dx + s->dr) * small, s->q};
+    return (struct draws){0, (size_t)places(s->dr) * s->n, places(s->dx + s->dr), s};
 }
 
-/* Whether the random octets are enough, and in *dropped how many groups are dropped. */
-static int enough(const struct draws *d, const struct buffer *random, uint64_t *dropped) {
-    uint32_t qlen = bytes_of(d->q), mask = UINT32_MAX >> __builtin_clz(d->q);
-    size_t at = d->before, kept = 0;
-    for (*dropped = 0; kept < d->count; at += qlen) {
+static size_t small_of(const struct set *s) { return (s->n * bits(s->l) + 7) / 8; }
+
+/* The octets that are used where nothing is dropped. */
+static size_t fixed_part(const struct draws *d) {
+    return (d->secrets + d->noise) * small_of(d->s) + d->count * bytes_of(d->s->q);
+}
+
+/* Random octets: enough of them mostly, with room for what is dropped. At times some of the first elements have a top
+   coefficient of zero, or all have. */
+static struct buffer *random_octets(const struct draws *d) {
+    size_t needed = fixed_part(d), small = small_of(d->s);
+    uint8_t how = octet(), which = octet();
+    size_t n = how < 16 ? needed - needed % (1u + octet()) : how < 32 ? octet() : 4 * needed + 64;
+    struct buffer *random = buffer(INPUT, n);
+    for (size_t i = 0; how % 4 == 0 && d->secrets > 0 && (i + 1) * small <= n; i++)
+        if (i < 8 ? which >> i & 1 : which == 0xFF)
+            set_top(random->at + i * small, d->s->n, bits(d->s->l), 0);
+    return random;
+}
+
+/* The elements that are dropped until all of a secret key are kept, or more than there are. */
+static uint64_t elements_dropped(const struct draws *d, const struct buffer *random) {
+    size_t kept = 0, at = 0, small = small_of(d->s);
+    for (; kept < d->secrets && at + small <= random->octets; at += small)
+        if (top(random->at + at, d->s->n, bits(d->s->l)) != 0)
+            kept++;
+    return kept < d->secrets ? UINT64_MAX : at / small - kept;
+}
+
+/* The groups that are dropped from here until all draws below q are made, or more than there are. */
+static uint64_t groups_dropped(const struct draws *d, const struct buffer *random, size_t at) {
+    uint32_t q = d->s->q, qlen = bytes_of(q), mask = UINT32_MAX >> __builtin_clz(q);
+    uint64_t dropped = 0;
+    for (size_t kept = 0; kept < d->count; at += qlen) {
         uint32_t group = 0;
         if (at + qlen > random->octets)
-            return 0;
+            return UINT64_MAX;
         for (uint32_t j = 0; j < qlen; j++)
             group |= (uint32_t)random->at[at + j] << 8 * j;
-        if ((group & mask) < d->q)
+        if ((group & mask) < q)
             kept++;
         else
-            ++*dropped;
+            dropped++;
     }
-    return at + d->after <= random->octets;
+    return dropped;
 }
 
-/* The rules of a call that draws, where the lowest refusal isn't one of 1 to 8. */
+/* The rules of a call that draws, where no refusal before 9 applies. dropped_elements is NULL where the call doesn't
+   tell them. */
 static void judge_draws(uint32_t number, struct draws d, const struct buffer *random, const struct buffer *used,
-                        const struct buffer *dropped_groups) {
-    uint64_t octets, groups, want, fixed = d.before + d.count * bytes_of(d.q) + d.after;
-    int accepted = enough(&d, random, &want);
+                        const struct buffer *dropped_groups, const struct buffer *dropped_elements) {
+    size_t small = small_of(d.s);
+    uint64_t elements = elements_dropped(&d, random), groups = UINT64_MAX, want = 0, told = 0;
+    if (elements != UINT64_MAX)
+        groups = groups_dropped(&d, random, (d.secrets + elements) * small);
+    if (groups != UINT64_MAX)
+        want = fixed_part(&d) + bytes_of(d.s->q) * groups + small * elements;
+    int accepted = groups != UINT64_MAX && want <= random->octets;
     rule(number == (accepted ? 0 : GIOPHANTUS_RANDOM_EXHAUSTED), "random octets: enough or too few");
     if (!accepted)
         return;
-    memcpy(&octets, used->at, 8), memcpy(&groups, dropped_groups->at, 8);
-    rule(groups == want, "another number of dropped groups");
-    rule(octets == fixed + bytes_of(d.q) * groups, "the octets used aren't the fixed part and those of dropped groups");
+    memcpy(&told, dropped_groups->at, 8);
+    rule(told == groups, "another number of dropped groups");
+    if (dropped_elements != NULL) {
+        memcpy(&told, dropped_elements->at, 8);
+        rule(told == elements, "another number of dropped elements");
+    }
+    memcpy(&told, used->at, 8);
+    rule(told == want, "the octets used aren't the fixed part and those of dropped groups and elements");
 }
 
 /* Keys, two messages, their ciphertexts, the sum, and back. */
@@ -502,13 +573,13 @@ static void round_trip(const struct set *s, size_t sk, size_t pk, size_t msg, si
     struct buffer *random = buffer(INPUT, 4 * (2 * small + pk) + 64);
     struct buffer *secret = buffer(OUTPUT, sk), *public = buffer(OUTPUT, pk);
     struct buffer *work = buffer(WORK, 32u * s->n), *used = buffer(OUTPUT, 8), *zero = buffer(OUTPUT, 4);
-    struct buffer *dropped = buffer(OUTPUT, 8);
+    struct buffer *groups = buffer(OUTPUT, 8), *elements = buffer(OUTPUT, 8);
     keep();
     number = giophantus_keygen(SET(s), OCTETS(random), OCTETS(secret), OCTETS(public), WORDS(work), (void *)used->at,
-                               (void *)dropped->at);
+                               (void *)groups->at, (void *)elements->at);
     settle(number);
     tell(ROUND, number, s);
-    judge_draws(number, keygen_draws(s), random, used, dropped);
+    judge_draws(number, keygen_draws(s), random, used, groups, elements);
     if (number != 0)
         return;
     secret->kind = public->kind = INPUT;
@@ -528,9 +599,9 @@ static void round_trip(const struct set *s, size_t sk, size_t pk, size_t msg, si
         cipher[i] = buffer(OUTPUT, ct);
         keep();
         number = giophantus_encrypt(SET(s), OCTETS(public), OCTETS(message[i]), OCTETS(more[i]), OCTETS(cipher[i]),
-                                    WORDS(work), (void *)used->at, (void *)dropped->at);
+                                    WORDS(work), (void *)used->at, (void *)groups->at);
         settle(number);
-        judge_draws(number, encrypt_draws(s), more[i], used, dropped);
+        judge_draws(number, encrypt_draws(s), more[i], used, groups, NULL);
         if (number != 0)
             return;
         cipher[i]->kind = INPUT;
@@ -573,7 +644,7 @@ typedef uint32_t to_octets(uint32_t, uint32_t, uint32_t, uint32_t, uint32_t, uin
 static void one_call(void) {
     enum call call = octet() % CALLS;
     struct set s = choose_set();
-    uint32_t refused = refusal_of(&s), number = 0, low = 0;
+    uint32_t refused = refusal_of(&s), number = 0, unfit = 0;
     now = names[call];
 
     /* The exact lengths; for a set that is refused, any. */
@@ -594,7 +665,8 @@ static void one_call(void) {
         return;
     }
 
-    struct buffer *x, *y, *z, *w, *u = NULL, *v = NULL, *r = NULL;
+    struct buffer *x, *y, *z, *w, *u = NULL, *v = NULL, *e = NULL, *r = NULL;
+    struct draws d = {0, 0, 0, &s};
     switch (call) {
     case CHECK:
         number = giophantus_check(SET(&s));
@@ -621,25 +693,26 @@ static void one_call(void) {
         break;
     }
     case KEYGEN:
-        r = random_octets(refused == 0 ? sk + pk - element : 64);
+        d = keygen_draws(&s), r = refused == 0 ? random_octets(&d) : buffer(INPUT, octet());
         x = sized(OUTPUT, sk, 1), y = sized(OUTPUT, pk, 1), w = sized(WORK, work_words, 4);
-        u = buffer(OUTPUT, 8), v = buffer(OUTPUT, 8);
+        u = buffer(OUTPUT, 8), v = buffer(OUTPUT, 8), e = buffer(OUTPUT, 8);
         keep();
-        number = giophantus_keygen(SET(&s), OCTETS(r), OCTETS(x), OCTETS(y), WORDS(w), (void *)u->at, (void *)v->at);
+        number = giophantus_keygen(SET(&s), OCTETS(r), OCTETS(x), OCTETS(y), WORDS(w), (void *)u->at, (void *)v->at,
+                                   (void *)e->at);
         break;
     case IS_ZERO:
         x = sized(INPUT, sk, 1), y = sized(INPUT, pk, 1), w = sized(WORK, work_words, 4), u = buffer(OUTPUT, 4);
         if (refused == 0 && !wrong_length)
-            low = fit_both(x, n * b, y, qlen, s.q);
+            unfit = fit_secret_and(x, y, &s);
         keep();
         number = giophantus_is_zero(SET(&s), OCTETS(x), OCTETS(y), WORDS(w), (void *)u->at);
         break;
     case ENCRYPT:
         x = sized(INPUT, pk, 1), y = sized(INPUT, msg, 1);
-        r = random_octets(refused == 0 ? places(s.dr) * element + nd * small : 64);
+        d = encrypt_draws(&s), r = refused == 0 ? random_octets(&d) : buffer(INPUT, octet());
         z = sized(OUTPUT, ct, 1), w = sized(WORK, work_words, 4), u = buffer(OUTPUT, 8), v = buffer(OUTPUT, 8);
         if (refused == 0 && !wrong_length)
-            low = fit_both(y, s.mlen, x, qlen, s.q);
+            unfit = fit_both(y, s.mlen, x, qlen, s.q);
         keep();
         number = giophantus_encrypt(SET(&s), OCTETS(x), OCTETS(y), OCTETS(r), OCTETS(z), WORDS(w), (void *)u->at,
                                     (void *)v->at);
@@ -647,9 +720,9 @@ static void one_call(void) {
     case ADD:
         x = sized(INPUT, ct, 1), y = octet() & 1 ? x : sized(INPUT, ct, 1), z = sized(OUTPUT, ct, 1);
         if (refused == 0 && !wrong_length) {
-            low = fit_coefficients(x, qlen, s.q);
+            unfit = fit_coefficients(x, qlen, s.q);
             if (y != x && fit_summand(y, x, qlen, s.q) != 0)
-                low = GIOPHANTUS_COEFFICIENT;
+                unfit = GIOPHANTUS_COEFFICIENT;
         }
         keep();
         number = giophantus_add(SET(&s), OCTETS(x), OCTETS(y), OCTETS(z));
@@ -660,12 +733,12 @@ static void one_call(void) {
     case DECRYPT:
         x = sized(INPUT, sk, 1), y = sized(INPUT, ct, 1), z = sized(OUTPUT, msg, 1), w = sized(WORK, work_words, 4);
         if (refused == 0 && !wrong_length)
-            low = fit_both(x, n * b, y, qlen, s.q);
+            unfit = fit_secret_and(x, y, &s);
         keep();
         number = giophantus_decrypt(SET(&s), OCTETS(x), OCTETS(y), OCTETS(z), WORDS(w));
         break;
     case MULTIPLY_ADD:
-        number = multiply_add(&s, refused == 0, n, &low);
+        number = multiply_add(&s, refused == 0, n, &unfit);
         break;
     default: { /* the conversions */
         static from_octets *const from[] = {giophantus_element_from_octets, giophantus_small_from_octets,
@@ -680,13 +753,13 @@ static void one_call(void) {
         if ((call - ELEMENT_FROM) % 2 == 0) {
             x = sized(INPUT, octets[which], 1), y = sized(OUTPUT, words[which], 4);
             if (refused == 0 && !wrong_length)
-                low = packed ? fit_packed(x, n * b) : fit_coefficients(x, qlen, s.q);
+                unfit = packed ? fit_packed(x, n * b) : fit_coefficients(x, qlen, s.q);
             keep();
             number = from[which](SET(&s), OCTETS(x), WORDS(y));
         } else {
             x = sized(INPUT, words[which], 4), y = sized(OUTPUT, octets[which], 1);
             if (refused == 0 && !wrong_length)
-                low = fit_coefficients(x, 4, packed ? s.l : s.q);
+                unfit = fit_coefficients(x, 4, packed ? s.l : s.q);
             keep();
             number = to[which](SET(&s), WORDS(x), OCTETS(y));
         }
@@ -704,11 +777,11 @@ static void one_call(void) {
     }
 
     settle(number);
-    uint32_t want = refused != 0 ? refused : wrong_length ? GIOPHANTUS_LENGTH : low;
+    uint32_t want = refused != 0 ? refused : wrong_length ? GIOPHANTUS_LENGTH : unfit;
     if (want != 0)
         rule(number == want, "another refusal");
     else if (call == KEYGEN || call == ENCRYPT)
-        judge_draws(number, call == KEYGEN ? keygen_draws(&s) : encrypt_draws(&s), r, u, v);
+        judge_draws(number, d, r, u, v, e);
     else if (call == DECRYPT)
         rule(number == 0 || number == GIOPHANTUS_TAIL, "an unexpected refusal");
     else

@@ -20,7 +20,8 @@
  *     ring element   n * qlen octets           a coefficient is qlen octets, least significant first; from t^0 up
  *     small element  ceil(n * b / 8) octets    packed: coefficient i takes b bits from bit i * b; bit 0 is the lowest
  *                                              bit of the first octet; unused top bits are zero
- *     secret key     2 * ceil(n * b / 8)       the packed u_x, then the packed u_y
+ *     secret key     2 * ceil(n * b / 8)       the packed u_x, then the packed u_y; the top coefficient of each,
+ *                                              that of t^(n - 1), isn't zero
  *     public key     N(dx) * n * qlen          ring elements by falling total degree, then by falling power of x
  *     ciphertext     N(D) * n * qlen           the same
  *     message        ceil(mlen / 8)            packed like a small element; unused bits count from mlen
@@ -32,12 +33,15 @@
  * other argument of that call, and the same holds of a number that a call writes behind a pointer; two buffers that
  * are only read may be one. Words are aligned as uint32_t is.
  *
- * Results. A call gives 0, or the number of the first refusal that applies, by rising number. On a refusal every
- * output, the numbers behind pointers included, holds its old contents.
+ * Results. A call gives 0, or the number of the first refusal that applies, in this order:
  *
- * Work words. Key generation, encryption, decryption and the zero test take 8 * n words to work in. A refusal
- * with 1 to 6 leaves them untouched; after every other ending they are zero. They need no preparation and may be
- * used again.
+ *     11, 1, 2, 3, 4, 5, 6, 7, 8, 14, 9, 10
+ *
+ * On a refusal every output, the numbers behind pointers included, holds its old contents.
+ *
+ * Work words. Key generation, encryption, decryption and the zero test take 8 * n words to work in. A refusal by the
+ * length test, which gives 6, or by a test before it in that order leaves them untouched; after every other ending
+ * they are zero. They need no preparation and may be used again.
  *
  * Blank fields. A count of zero is a finding, and it is encrypted like any other count. A field that was left
  * blank is no count: it goes out under a set with mlen 0, with a message of length 0, and never as zeros. Every
@@ -64,7 +68,7 @@
 extern "C" {
 #endif
 
-/* The numbers that calls give. If several refusals apply, the lowest is given. */
+/* The numbers that calls give. Which is given where several refusals apply: see "Results". */
 enum giophantus_refusal {
     GIOPHANTUS_OK = 0,               /* success */
     GIOPHANTUS_RANGE = 1,            /* l isn't 2, 4, 8 or 16 */
@@ -77,7 +81,8 @@ enum giophantus_refusal {
     GIOPHANTUS_COEFFICIENT = 8,      /* a given coefficient is q or more, or l or more where a small one is expected */
     GIOPHANTUS_RANDOM_EXHAUSTED = 9, /* the random octets end before the last draw is complete */
     GIOPHANTUS_TAIL = 10,            /* a decrypted coefficient past mlen bits isn't zero */
-    GIOPHANTUS_LINE = 11             /* the program roomsheet met a malformed line; no call gives it */
+    GIOPHANTUS_LINE = 11,            /* the program roomsheet met a malformed line; no call gives it */
+    GIOPHANTUS_TOP_COEFFICIENT = 14  /* an element of a given secret key has a zero top coefficient */
 };
 
 /*
@@ -106,28 +111,32 @@ uint32_t giophantus_lengths(uint32_t l, uint32_t q, uint32_t n, uint32_t dx, uin
 
 /*
  * giophantus_keygen: make a secret key and a public key from random octets, of which it reads as many as it needs
- * from the front and says in *used how many. It takes ceil(n * b / 8) octets for each of u_x and u_y, then qlen
- * octets for each coefficient of the public key but those of the constant; a group of qlen octets whose number
- * (modulo 2 to the bit length of q) is q or more is dropped and the next is taken, so the number of octets needed
- * is not known beforehand. It says in *dropped_groups how many groups were dropped, which is no fault, and so
+ * from the front and says in *used how many. It takes ceil(n * b / 8) octets for u_x, then as many for u_y, whose
+ * unused bits are ignored; an element with a zero top coefficient is dropped whole and the next octets are taken.
+ * Then it takes qlen octets for each coefficient of the public key but those of the constant; a group of qlen octets
+ * whose number (modulo 2 to the bit length of q) is q or more is dropped and the next is taken. So the number of
+ * octets needed is not known beforehand. It says in *dropped_groups how many groups were dropped, and in
+ * *dropped_elements how many elements, which is no fault, and so
  *
- *     used = 2 * ceil(n * b / 8) + qlen * (N(dx) - 1) * n + qlen * dropped_groups
+ *     used = 2 * ceil(n * b / 8) + qlen * (N(dx) - 1) * n
+ *            + qlen * dropped_groups + ceil(n * b / 8) * dropped_elements
  *
  * The secret key that it makes is always a zero of the public key. Octets that were used once must not be used
- * again. Refusals, in order: 1 to 5; 6 where secret_key, public_key or work isn't of its exact length; 9 where the
- * octets end too early: call again with the same octets and more behind them.
+ * again, those of dropped groups and elements neither. Refusals, in order: 1 to 5; 6 where secret_key, public_key or
+ * work isn't of its exact length; 9 where the octets end too early: call again with the same octets and more behind
+ * them. Zeros alone are dropped however many there are, and give 9.
  */
 uint32_t giophantus_keygen(uint32_t l, uint32_t q, uint32_t n, uint32_t dx, uint32_t dr, uint32_t mlen,
                            const uint8_t *random, size_t random_len, uint8_t *secret_key, size_t secret_key_len,
                            uint8_t *public_key, size_t public_key_len, uint32_t *work, size_t work_len,
-                           uint64_t *used, uint64_t *dropped_groups);
+                           uint64_t *used, uint64_t *dropped_groups, uint64_t *dropped_elements);
 
 /*
  * giophantus_is_zero: does this secret key belong to this public key? *zero is 1 where the value of the public
  * key at (u_x, u_y) is 0 in R_q, and otherwise 0. What is promised of decryption holds for secret keys that have
  * the answer 1. Refusals, in order: 1 to 5; 6 where secret_key, public_key or work isn't of its exact length; 7
  * where either half of the secret key has a non-zero unused bit; 8 where a coefficient of the public key is q or
- * more.
+ * more; 14 where u_x or u_y has a zero top coefficient.
  */
 uint32_t giophantus_is_zero(uint32_t l, uint32_t q, uint32_t n, uint32_t dx, uint32_t dr, uint32_t mlen,
                             const uint8_t *secret_key, size_t secret_key_len, const uint8_t *public_key,
@@ -136,7 +145,8 @@ uint32_t giophantus_is_zero(uint32_t l, uint32_t q, uint32_t n, uint32_t dx, uin
 /*
  * giophantus_encrypt: encrypt a message of mlen / b counts under a public key. It takes random octets as
  * giophantus_keygen does (N(dr) * n draws below q, then N(D) small elements of ceil(n * b / 8) octets each, whose
- * unused bits are ignored) and says in *used how many, and in *dropped_groups how many groups were dropped:
+ * unused bits are ignored and of which none is dropped) and says in *used how many, and in *dropped_groups how many
+ * groups were dropped:
  *
  *     used = qlen * N(dr) * n + N(D) * ceil(n * b / 8) + qlen * dropped_groups
  *
@@ -169,8 +179,9 @@ uint32_t giophantus_add(uint32_t l, uint32_t q, uint32_t n, uint32_t dx, uint32_
  * message. Under a set with mlen 0 a blank decrypts to a message of length 0 (any pointer that is not null).
  * Refusals, in order: 1 to 5; 6 where secret_key, ciphertext, message or work isn't of its exact length; 7 where
  * either half of the secret key has a non-zero unused bit; 8 where a coefficient of the ciphertext is q or more;
- * 10 where a coefficient past mlen bits isn't zero modulo l: a wrong secret key, a wrong mlen, a damaged
- * ciphertext or a sum past the headroom. A decryption that is not refused is no sign that none of these happened.
+ * 14 where u_x or u_y has a zero top coefficient; 10 where a coefficient past mlen bits isn't zero modulo l: a wrong
+ * secret key, a wrong mlen, a damaged ciphertext or a sum past the headroom. A decryption that is not refused is no
+ * sign that none of these happened.
  */
 uint32_t giophantus_decrypt(uint32_t l, uint32_t q, uint32_t n, uint32_t dx, uint32_t dr, uint32_t mlen,
                             const uint8_t *secret_key, size_t secret_key_len, const uint8_t *ciphertext,
@@ -225,8 +236,9 @@ uint32_t giophantus_small_to_octets(uint32_t l, uint32_t q, uint32_t n, uint32_t
 
 /*
  * giophantus_secret_key_from_octets: the 2 * n coefficients of a secret key as words, u_x and then u_y, each below
- * l, from its octets. Refusals, in order: 1 to 5; 6 where octets or words isn't of its exact length; 7 where an
- * unused bit of either half isn't zero. No work words.
+ * l, from its octets. Its top coefficients are not judged: giophantus_is_zero and giophantus_decrypt do that.
+ * Refusals, in order: 1 to 5; 6 where octets or words isn't of its exact length; 7 where an unused bit of either half
+ * isn't zero. No work words.
  */
 uint32_t giophantus_secret_key_from_octets(uint32_t l, uint32_t q, uint32_t n, uint32_t dx, uint32_t dr,
                                            uint32_t mlen, const uint8_t *octets, size_t octets_len, uint32_t *words,
@@ -234,8 +246,8 @@ uint32_t giophantus_secret_key_from_octets(uint32_t l, uint32_t q, uint32_t n, u
 
 /*
  * giophantus_secret_key_to_octets: the octets of a secret key, from its 2 * n coefficients as words, u_x and then
- * u_y; the unused bits of each half are written as zero. Refusals, in order: 1 to 5; 6 where words or octets isn't
- * of its exact length; 8 where a word is l or more. No work words.
+ * u_y; the unused bits of each half are written as zero. Its top coefficients are not judged. Refusals, in order: 1
+ * to 5; 6 where words or octets isn't of its exact length; 8 where a word is l or more. No work words.
  */
 uint32_t giophantus_secret_key_to_octets(uint32_t l, uint32_t q, uint32_t n, uint32_t dx, uint32_t dr, uint32_t mlen,
                                          const uint32_t *words, size_t words_len, uint8_t *octets,

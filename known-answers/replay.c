@@ -278,7 +278,7 @@ static void check_buffer(const struct argument *a, const struct buffer *b, uint3
 CALL(check, (SET))
 CALL(limits, (SET, CELLS(0), CELLS(1)))
 CALL(lengths, (SET, CELLS(0), CELLS(1), CELLS(2), CELLS(3), CELLS(4)))
-CALL(keygen, (SET, BUFFER(0), BUFFER(1), BUFFER(2), BUFFER(3), CELLS(4), CELLS(5)))
+CALL(keygen, (SET, BUFFER(0), BUFFER(1), BUFFER(2), BUFFER(3), CELLS(4), CELLS(5), CELLS(6)))
 CALL(is_zero, (SET, BUFFER(0), BUFFER(1), BUFFER(2), CELLS(3)))
 CALL(encrypt, (SET, BUFFER(0), BUFFER(1), BUFFER(2), BUFFER(3), BUFFER(4), CELLS(5), CELLS(6)))
 CALL(add, (SET, BUFFER(0), BUFFER(1), BUFFER(2)))
@@ -319,7 +319,8 @@ static const struct call {
       {"public_key", OUTPUT, 1},
       {"work", WORK, 4},
       {"used", NUMBER, 8},
-      {"dropped_groups", NUMBER, 8}}},
+      {"dropped_groups", NUMBER, 8},
+      {"dropped_elements", NUMBER, 8}}},
     {"is_zero",
      call_is_zero,
      {{"secret_key", INPUT, 1}, {"public_key", INPUT, 1}, {"work", WORK, 4}, {"zero", NUMBER, 4}}},

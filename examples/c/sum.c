@@ -25,7 +25,8 @@
 #define SET L, Q, N, DX, DR, MLEN
 #define COUNTS 4u /* MLEN divided by the 4 bits of a count */
 
-/* More than each step here uses: 36 for keys and 60 for a ciphertext, and 4 more for each group that is dropped. */
+/* More than each step here uses: 36 for keys and 60 for a ciphertext, 4 more for each group that is dropped, and 2 more
+   for each element that is. */
 #define RANDOM_OCTETS 128u
 
 static void *buffer(uint64_t count, size_t size) {
@@ -75,7 +76,7 @@ int main(void) {
     static const uint32_t counts[2][COUNTS] = {{3, 0, 7, 1}, {2, 5, 4, 0}};
     uint32_t bound = 0, headroom = 0, zero = 0;
     uint64_t secret_len = 0, public_len = 0, message_len = 0, ciphertext_len = 0, work_len = 0;
-    uint64_t used = 0, dropped = 0;
+    uint64_t used = 0, groups = 0, elements = 0; /* random octets used; groups and elements dropped */
     uint8_t random[RANDOM_OCTETS];
 
     accepted("limits", giophantus_limits(SET, &bound, &headroom));
@@ -91,9 +92,10 @@ int main(void) {
 
     fixed_octets(1, random);
     accepted("keygen", giophantus_keygen(SET, random, sizeof random, secret_key, secret_len, public_key, public_len,
-                                         work, work_len, &used, &dropped));
+                                         work, work_len, &used, &groups, &elements));
     accepted("is_zero", giophantus_is_zero(SET, secret_key, secret_len, public_key, public_len, work, work_len, &zero));
-    printf("keys from %" PRIu64 " octets, groups dropped: %" PRIu64 "\n", used, dropped);
+    printf("keys from %" PRIu64 " octets; dropped: groups %" PRIu64 ", elements %" PRIu64 "\n", used, groups,
+           elements);
     printf("the secret key is a zero of the public key: %s\n", zero ? "yes" : "no");
 
     for (uint32_t i = 0; i < 2; i++) {
@@ -102,7 +104,7 @@ int main(void) {
         fixed_octets(2 + i, random);
         accepted("encrypt", giophantus_encrypt(SET, public_key, public_len, message, message_len, random,
                                                sizeof random, ciphertext[i], ciphertext_len, work, work_len, &used,
-                                               &dropped));
+                                               &groups));
     }
 
     accepted("add", giophantus_add(SET, ciphertext[0], ciphertext_len, ciphertext[1], ciphertext_len, total,

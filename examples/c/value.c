@@ -62,17 +62,35 @@ static void zero_test(const uint32_t *secret_key, const uint32_t *public_key, co
     printf("giophantus_is_zero: %s\n", zero ? "yes" : "no");
 }
 
+static void refusals(const uint32_t *secret_key, const uint32_t *public_key, const uint8_t *public_octets) {
+    /* u_y is 3, whose coefficient of t is zero. */
+    static const uint8_t ends_in_zero[SECRET_KEY_OCTETS] = {0x09, 0x03};
+    uint32_t work[WORK_WORDS], zero = 0;
+    printf("a secret key that ends in zero: refusal %" PRIu32 "\n",
+           giophantus_is_zero(SET, ends_in_zero, sizeof ends_in_zero, public_octets, PUBLIC_KEY_OCTETS, work,
+                              WORK_WORDS, &zero));
+
+    /* A word of c is q. c keeps its old contents. */
+    uint32_t c[N] = {1, Q};
+    printf("a word of q in c: refusal %" PRIu32 "\n",
+           giophantus_multiply_add(SET, public_key + OF_X, N, secret_key + U_X, N, c, N));
+    print_element("c", c);
+}
+
 int main(void) {
     /* Octets that are not random, so that the example prints the same: they give u_x = 1 + 2t and u_y = t, and 5 + 7t
-       and 100 + t for x and y. The group 0xB3 0x05 is 1459, which is not below q: it is dropped. */
-    static const uint8_t random[] = {0x09, 0x04, 5, 0, 0xB3, 0x05, 7, 0, 100, 0, 1, 0};
+       and 100 + t for x and y. The element 0x03 is 3, whose coefficient of t is zero: it is dropped. So is the group
+       0xB3 0x05, which is 1459 and not below q. */
+    static const uint8_t random[] = {0x09, 0x03, 0x04, 5, 0, 0xB3, 0x05, 7, 0, 100, 0, 1, 0};
     uint8_t secret_octets[SECRET_KEY_OCTETS], public_octets[PUBLIC_KEY_OCTETS];
     uint32_t secret_key[SECRET_KEY_WORDS], public_key[PUBLIC_KEY_WORDS], work[WORK_WORDS];
-    uint64_t used = 0, dropped = 0;
+    uint64_t used = 0, groups = 0, elements = 0;
 
     accepted("keygen", giophantus_keygen(SET, random, sizeof random, secret_octets, sizeof secret_octets,
-                                         public_octets, sizeof public_octets, work, WORK_WORDS, &used, &dropped));
-    printf("keys from %" PRIu64 " octets, groups dropped: %" PRIu64 "\n", used, dropped);
+                                         public_octets, sizeof public_octets, work, WORK_WORDS, &used, &groups,
+                                         &elements));
+    printf("keys from %" PRIu64 " octets; dropped: groups %" PRIu64 ", elements %" PRIu64 "\n", used, groups,
+           elements);
     accepted("secret_key_from_octets", giophantus_secret_key_from_octets(SET, secret_octets, sizeof secret_octets,
                                                                          secret_key, SECRET_KEY_WORDS));
     accepted("public_key_from_octets", giophantus_public_key_from_octets(SET, public_octets, sizeof public_octets,
@@ -90,10 +108,6 @@ int main(void) {
     secret_key[U_X] += 1;
     zero_test(secret_key, public_key, public_octets);
 
-    /* A refusal: a word of c is q. c keeps its old contents. */
-    uint32_t c[N] = {1, Q};
-    printf("a word of q in c: refusal %" PRIu32 "\n",
-           giophantus_multiply_add(SET, public_key + OF_X, N, secret_key + U_X, N, c, N));
-    print_element("c", c);
+    refusals(secret_key, public_key, public_octets);
     return 0;
 }

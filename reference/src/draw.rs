@@ -2,7 +2,7 @@
 //! complete.
 
 use crate::octets;
-use crate::ring::Element;
+use crate::ring::{self, Element};
 use crate::set::{bit_length, Set};
 
 /// What a single draw below q says.
@@ -35,12 +35,13 @@ pub fn below_q(set: Set, octets: &[u8]) -> Option<Draw> {
     }
 }
 
-/// The draws of one run: the random octets, how many of them are used and how many groups are
-/// dropped so far.
+/// The draws of one run: the random octets, how many of them are used, and how many groups and
+/// small elements are dropped so far.
 pub struct Draws<'a> {
     octets: &'a [u8],
     used: usize,
     dropped_groups: u64,
+    dropped_elements: u64,
 }
 
 impl<'a> Draws<'a> {
@@ -49,10 +50,11 @@ impl<'a> Draws<'a> {
             octets,
             used: 0,
             dropped_groups: 0,
+            dropped_elements: 0,
         }
     }
 
-    /// The octets used so far, those of dropped groups included.
+    /// The octets used so far, those of dropped groups and elements included.
     pub fn used(&self) -> u64 {
         self.used as u64
     }
@@ -60,6 +62,11 @@ impl<'a> Draws<'a> {
     /// The groups dropped so far, over all draws below q.
     pub fn dropped_groups(&self) -> u64 {
         self.dropped_groups
+    }
+
+    /// The small elements dropped so far.
+    pub fn dropped_elements(&self) -> u64 {
+        self.dropped_elements
     }
 
     /// A draw below q; what it used and dropped is added to the run's totals.
@@ -80,5 +87,17 @@ impl<'a> Draws<'a> {
         let packed = self.octets[self.used..].get(..set.small_octets())?;
         self.used += packed.len();
         Some(octets::unpack(set.b(), packed, set.places()))
+    }
+
+    /// A small element of degree n - 1, as a secret key needs (02, Q-3): one with a zero at
+    /// t^(n - 1) is dropped whole.
+    pub fn small_of_full_degree(&mut self, set: Set) -> Option<Element> {
+        loop {
+            let element = self.small(set)?;
+            if ring::has_full_degree(&element) {
+                return Some(element);
+            }
+            self.dropped_elements += 1;
+        }
     }
 }

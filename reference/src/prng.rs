@@ -1,5 +1,7 @@
 //! A small generator of test numbers (splitmix64). Not for keys.
 
+use crate::set::Set;
+
 pub struct Prng {
     state: u64,
 }
@@ -24,5 +26,11 @@ impl Prng {
 
     pub fn octets(&mut self, count: usize) -> Vec<u8> {
         (0..count).map(|_| (self.number() >> 56) as u8).collect()
+    }
+
+    /// Enough random octets for keys or a ciphertext: a group or a secret element is dropped with a
+    /// chance of at most one half.
+    pub fn octets_for(&mut self, set: Set) -> Vec<u8> {
+        self.octets(16 * set.ciphertext_octets() + 4096)
     }
 }

@@ -1,4 +1,5 @@
-//! The refusal table of 01.
+//! The refusal table of 01, with 02's number for Q-3. If several apply, the first in this order is
+//! given: 11, then 1 to 8, then 14, then 9, then 10.
 
 /// Success.
 pub const NONE: u32 = 0;
@@ -18,6 +19,8 @@ pub const LENGTH: u32 = 6;
 pub const PADDING: u32 = 7;
 /// 01: coefficient. A given coefficient is q or more, or l or more where a small one is expected.
 pub const COEFFICIENT: u32 = 8;
+/// 02, Q-3. A given secret element has a zero at t^(n - 1). Tested after 8 and before 9.
+pub const TOP_COEFFICIENT: u32 = 14;
 /// 01: spent. The random octets end before the last draw is complete.
 pub const RANDOM_EXHAUSTED: u32 = 9;
 /// 01: tail. A decrypted coefficient past mlen bits isn't zero.

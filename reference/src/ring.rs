@@ -29,6 +29,11 @@ impl Polynomial {
     }
 }
 
+/// Whether the degree in t is n - 1: the coefficient of t^(n - 1) isn't zero.
+pub fn has_full_degree(a: &[u32]) -> bool {
+    a.last().is_some_and(|&top| top != 0)
+}
+
 /// a + b in R_q.
 pub fn sum(q: u32, a: &[u32], b: &[u32]) -> Element {
     assert_eq!(a.len(), b.len());

@@ -7,9 +7,10 @@ use crate::refusal;
 use crate::ring::{self, Element, Polynomial};
 use crate::set::{check_lengths, Set};
 
-/// 01: key making. Draws u_x, u_y and every key element but the constant, which is minus the sum
-/// of a_ij * u_x^i * u_y^j over the others. Reports the octets used and, by 02's Q-1, the groups
-/// dropped.
+/// 01: key making. Draws u_x, u_y (by 02's Q-3 of degree n - 1) and every key element but the
+/// constant, which is minus the sum of a_ij * u_x^i * u_y^j over the others. Reports the octets
+/// used and, by 02's, the groups and the secret elements dropped.
+#[allow(clippy::too_many_arguments)] // Those of the C interface.
 pub fn keygen(
     set: Set,
     random: &[u8],
@@ -18,6 +19,7 @@ pub fn keygen(
     work: &mut [u32],
     used: &mut u64,
     dropped_groups: &mut u64,
+    dropped_elements: &mut u64,
 ) -> u32 {
     let number = check_lengths(
         set,
@@ -43,12 +45,13 @@ pub fn keygen(
     public_key.copy_from_slice(&octets::numbers_to_octets(set.qlen(), &key.to_words()));
     *used = draws.used();
     *dropped_groups = draws.dropped_groups();
+    *dropped_elements = draws.dropped_elements();
     refusal::NONE
 }
 
 fn draw_keys(set: Set, draws: &mut Draws) -> Option<(Element, Element, Polynomial)> {
-    let u_x = draws.small(set)?;
-    let u_y = draws.small(set)?;
+    let u_x = draws.small_of_full_degree(set)?;
+    let u_y = draws.small_of_full_degree(set)?;
     let mut key = Polynomial {
         degree: set.dx,
         elements: Vec::new(),
@@ -64,7 +67,8 @@ fn draw_keys(set: Set, draws: &mut Draws) -> Option<(Element, Element, Polynomia
     Some((u_x, u_y, key))
 }
 
-/// The zero test: 1 if the key's value at the secret key is 0 in R_q, otherwise 0.
+/// The zero test: 1 if the key's value at the secret key is 0 in R_q, otherwise 0. Refusals 1 to 8,
+/// 14.
 ///
 /// A secret key for which it says 1 is a zero of the public key (01: a fitting secret).
 pub fn is_zero(
@@ -87,14 +91,10 @@ pub fn is_zero(
     }
     work.fill(0);
 
-    let Some((u_x, u_y)) = read_secret_key(set, secret_key) else {
-        return refusal::PADDING;
+    let value = match value_at_secret(set, secret_key, set.dx, public_key) {
+        Ok(value) => value,
+        Err(number) => return number,
     };
-    let Some(key) = read_polynomial(set, set.dx, public_key) else {
-        return refusal::COEFFICIENT;
-    };
-
-    let value = ring::value(set.q, &key, &u_x, &u_y);
     *zero = u32::from(value.iter().all(|&x| x == 0));
     refusal::NONE
 }
@@ -197,6 +197,7 @@ pub fn add(set: Set, a: &[u8], b: &[u8], sum: &mut [u8]) -> u32 {
 }
 
 /// 01: opening. w = c(u_x, u_y) in R_q, each coefficient as a number 0 to q - 1, then modulo l.
+/// Refusals 1 to 8, 14, 10, in this order.
 pub fn decrypt(
     set: Set,
     secret_key: &[u8],
@@ -218,14 +219,10 @@ pub fn decrypt(
     }
     work.fill(0);
 
-    let Some((u_x, u_y)) = read_secret_key(set, secret_key) else {
-        return refusal::PADDING;
+    let w = match value_at_secret(set, secret_key, set.d(), ciphertext) {
+        Ok(w) => w,
+        Err(number) => return number,
     };
-    let Some(c) = read_polynomial(set, set.d(), ciphertext) else {
-        return refusal::COEFFICIENT;
-    };
-
-    let w = ring::value(set.q, &c, &u_x, &u_y);
     let small: Vec<u32> = w.iter().map(|x| x % set.l).collect();
     let (kept, tail) = small.split_at((set.mlen / set.b()) as usize);
     if tail.iter().any(|&x| x != 0) {
@@ -254,6 +251,22 @@ pub fn multiply_add(set: Set, a: &[u32], b: &[u32], c: &mut [u32]) -> u32 {
     let result = ring::multiply_add(set.q, a, b, c);
     c.copy_from_slice(&result);
     refusal::NONE
+}
+
+/// The value of a given polynomial at a given secret key. Refusals 7, 8, 14, in this order. Both
+/// lengths are right.
+fn value_at_secret(
+    set: Set,
+    secret_key: &[u8],
+    degree: u32,
+    polynomial: &[u8],
+) -> Result<Element, u32> {
+    let (u_x, u_y) = read_secret_key(set, secret_key).ok_or(refusal::PADDING)?;
+    let polynomial = read_polynomial(set, degree, polynomial).ok_or(refusal::COEFFICIENT)?;
+    if !ring::has_full_degree(&u_x) || !ring::has_full_degree(&u_y) {
+        return Err(refusal::TOP_COEFFICIENT);
+    }
+    Ok(ring::value(set.q, &polynomial, &u_x, &u_y))
 }
 
 /// u_x and u_y; `None` if an unused bit isn't zero. The length is right.

@@ -1,4 +1,5 @@
-//! Request Q-1 of document 02: the groups that draws below q drop, beside the octets used.
+//! Request Q-1 of document 02: the groups that draws below q drop, beside the octets used. Secrets
+//! here are of full degree, so that no element is dropped.
 
 use reference::draw::{below_q, Draw};
 use reference::prng::Prng;
@@ -51,11 +52,13 @@ fn sets() -> Vec<Set> {
 /// groups dropped.
 type Given = (u32, Vec<Vec<u8>>, [u64; 2]);
 
-/// Makes keys into marked buffers of these lengths: secret key, public key, work words.
+/// Makes keys into marked buffers of these lengths: secret key, public key, work words. The random
+/// octets begin with a secret of full degree.
 fn keys_of_lengths(set: Set, random: &[u8], lengths: [usize; 3]) -> Given {
     let mut secret_key = vec![0xAA; lengths[0]];
     let mut public_key = vec![0xAA; lengths[1]];
     let [mut used, mut dropped] = OLD;
+    let mut elements = 55;
     let number = keygen(
         set,
         random,
@@ -64,7 +67,9 @@ fn keys_of_lengths(set: Set, random: &[u8], lengths: [usize; 3]) -> Given {
         &mut vec![7; lengths[2]],
         &mut used,
         &mut dropped,
+        &mut elements,
     );
+    assert_eq!(elements, if number == 0 { 0 } else { 55 });
     (number, vec![secret_key, public_key], [used, dropped])
 }
 
@@ -117,9 +122,19 @@ fn constant_1(set: Set) -> Vec<u8> {
     octets
 }
 
-/// Enough random octets: a group is dropped with a chance of at most one half.
-fn random_for(set: Set, prng: &mut Prng) -> Vec<u8> {
-    prng.octets(16 * set.ciphertext_octets() + 4096)
+/// Random octets for keys: a secret of full degree, then any.
+fn octets_for_keys(set: Set, prng: &mut Prng) -> Vec<u8> {
+    let small = |prng: &mut Prng| -> Vec<u32> {
+        let mut words: Vec<u32> = (0..set.n)
+            .map(|_| prng.below(u64::from(set.l)) as u32)
+            .collect();
+        words[set.places() - 1] = 1 + prng.below(u64::from(set.l - 1)) as u32;
+        words
+    };
+    let words = [small(prng), small(prng)].concat();
+    let mut secret = vec![0; set.secret_key_octets()];
+    assert_eq!(secret_key_to_octets(set, &words, &mut secret), 0);
+    [secret, prng.octets_for(set)].concat()
 }
 
 fn qlen(set: Set) -> usize {
@@ -301,12 +316,13 @@ fn octets_used_and_groups_dropped() {
         let mut dropped_of_all = 0;
         let rounds = 100;
         for _ in 0..rounds {
-            let (number, made, [used, dropped]) = keys(set, &random_for(set, &mut prng));
+            let random = octets_for_keys(set, &mut prng);
+            let (number, made, [used, dropped]) = keys(set, &random);
             assert_eq!(number, 0);
             assert_eq!(used, octets_used(set, fixed_for_keys(set), dropped));
             dropped_of_all += dropped;
 
-            let random = random_for(set, &mut prng);
+            let random = prng.octets_for(set);
             let (number, _, [used, dropped]) = ciphertext(set, &made[1], &random);
             assert_eq!(number, 0);
             assert_eq!(used, octets_used(set, fixed_for_ciphertext(set), dropped));
@@ -327,7 +343,7 @@ fn totals_are_sums_over_single_draws() {
     let mut prng = Prng::new(12);
     for set in sets() {
         for _ in 0..10 {
-            let random = random_for(set, &mut prng);
+            let random = octets_for_keys(set, &mut prng);
             let (number, made, [used, dropped]) = keys(set, &random);
             assert_eq!(number, 0);
             let secret = 2 * small_octets(set);
@@ -342,7 +358,7 @@ fn totals_are_sums_over_single_draws() {
                 .map(|draw| draw.value)
                 .eq(words[..count].to_vec()));
 
-            let random = random_for(set, &mut prng);
+            let random = prng.octets_for(set);
             let (number, _, [used, dropped]) = ciphertext(set, &made[1], &random);
             assert_eq!(number, 0);
             let noise = monomials(set.dx + set.dr) * small_octets(set);
@@ -359,7 +375,7 @@ fn totals_are_sums_over_single_draws() {
 fn r_is_of_single_draws() {
     let mut prng = Prng::new(13);
     for set in sets() {
-        let mut random = random_for(set, &mut prng);
+        let mut random = prng.octets_for(set);
         let draws = single_draws(set, &random, draws_for_ciphertext(set));
         let [drawn, wanted] = totals(&draws);
         random[drawn as usize..].fill(0);
@@ -401,10 +417,11 @@ fn check_one_more(
 fn one_more_dropped_group() {
     let mut prng = Prng::new(14);
     for set in sets() {
-        let random = random_for(set, &mut prng);
+        let random = octets_for_keys(set, &mut prng);
         let (start, count) = (2 * small_octets(set), draws_for_keys(set));
         check_one_more(set, &|octets| keys(set, octets), &random, start, count);
 
+        let random = prng.octets_for(set);
         let key = constant_1(set);
         let count = draws_for_ciphertext(set);
         let run = |octets: &[u8]| ciphertext(set, &key, octets);
@@ -429,9 +446,9 @@ fn many_dropped_groups() {
     assert_eq!(given, (0, wanted, [140_018, 70_000]));
 }
 
-/// Octets of small elements are never dropped, whatever they are.
+/// Small elements of ones, which no draw below q would keep, drop nothing.
 #[test]
-fn small_elements_drop_nothing() {
+fn small_elements_of_ones_drop_nothing() {
     for set in sets() {
         let secret = vec![0xFF; 2 * small_octets(set)];
         let zeros = vec![0; qlen(set) * draws_for_keys(set)];
@@ -466,9 +483,10 @@ fn exhausted_at_every_length() {
     let mut prng = Prng::new(15);
     let mut after_dropped_groups = 0;
     for set in HALF {
-        let random = random_for(set, &mut prng);
-        let key = constant_1(set);
+        let random = octets_for_keys(set, &mut prng);
         after_dropped_groups += check_every_length(&|octets| keys(set, octets), &random);
+        let random = prng.octets_for(set);
+        let key = constant_1(set);
         after_dropped_groups +=
             check_every_length(&|octets| ciphertext(set, &key, octets), &random);
     }
@@ -479,8 +497,9 @@ fn exhausted_at_every_length() {
 #[test]
 fn refusals_keep_the_numbers() {
     let random = [[0xB3, 0x05].repeat(3), vec![0; 40]].concat();
+    let for_keys = [&[0x09, 0x04][..], &random].concat();
     let try_keygen = |set, public_key: usize| {
-        let (number, _, report) = keys_of_lengths(set, &random, [2, public_key, 16]);
+        let (number, _, report) = keys_of_lengths(set, &for_keys, [2, public_key, 16]);
         (number, report)
     };
     let try_encrypt = |set, public_key: &[u8], message: u8| {
@@ -488,7 +507,7 @@ fn refusals_keep_the_numbers() {
             ciphertext_of_lengths(set, public_key, &[message], &random, [24, 16]);
         (number, report)
     };
-    assert_eq!(try_keygen(A, 12), (0, [14, 2]));
+    assert_eq!(try_keygen(A, 12), (0, [16, 3]));
     assert_eq!(try_encrypt(A, &[0; 12], 0), (0, [24, 3]));
     for (set, wanted) in [
         (Set { l: 3, ..A }, 1),

@@ -1,4 +1,4 @@
-//! Properties of document 01 on many sets, with fixed random octets.
+//! Properties of document 01, with the secrets of 02's Q-3, on many sets with fixed random octets.
 
 use reference::ledger::Ledger;
 use reference::prng::Prng;
@@ -36,16 +36,11 @@ struct Keys {
     public_key: Vec<u8>,
 }
 
-/// Enough random octets: a group is dropped with a chance of at most one half.
-fn random_for(set: Set, prng: &mut Prng) -> Vec<u8> {
-    prng.octets(16 * set.ciphertext_octets() + 4096)
-}
-
-/// Makes keys with work words of its own: the number. `report` is the octets used with the groups
-/// dropped.
-fn keygen_into(set: Set, random: &[u8], keys: &mut Keys, report: &mut [u64; 2]) -> u32 {
+/// Makes keys with work words of its own: the number. `report` is the octets used, the groups and
+/// the elements dropped.
+fn keygen_into(set: Set, random: &[u8], keys: &mut Keys, report: &mut [u64; 3]) -> u32 {
     let mut work = vec![7; set.work_words()];
-    let [used, dropped] = report;
+    let [used, groups, elements] = report;
     let number = keygen(
         set,
         random,
@@ -53,19 +48,20 @@ fn keygen_into(set: Set, random: &[u8], keys: &mut Keys, report: &mut [u64; 2]) 
         &mut keys.public_key,
         &mut work,
         used,
-        dropped,
+        groups,
+        elements,
     );
     assert!(work.iter().all(|&x| x == 0));
     number
 }
 
 fn make_keys(set: Set, prng: &mut Prng) -> Keys {
-    let random = random_for(set, prng);
+    let random = prng.octets_for(set);
     let mut keys = Keys {
         secret_key: vec![0xAA; set.secret_key_octets()],
         public_key: vec![0xAA; set.public_key_octets()],
     };
-    let mut report = [0, 0];
+    let mut report = [0; 3];
     assert_eq!(keygen_into(set, &random, &mut keys, &mut report), 0);
 
     // Exactly the octets used are enough, one fewer is not.
@@ -74,8 +70,9 @@ fn make_keys(set: Set, prng: &mut Prng) -> Keys {
         secret_key: vec![0; set.secret_key_octets()],
         public_key: vec![0; set.public_key_octets()],
     };
-    for (count, number, wanted) in [(used, 0, report), (used - 1, 9, [99, 77])] {
-        let mut report = [99, 77];
+    let old = [99, 77, 55];
+    for (count, number, wanted) in [(used, 0, report), (used - 1, 9, old)] {
+        let mut report = old;
         let given = keygen_into(set, &random[..count], &mut again, &mut report);
         assert_eq!((given, report), (number, wanted));
         assert_eq!(again.secret_key, keys.secret_key);
@@ -179,7 +176,7 @@ fn keys_and_messages() {
             assert_eq!((number, zero), (0, 0));
 
             let message = random_message(set, &mut prng);
-            let random = random_for(set, &mut prng);
+            let random = prng.octets_for(set);
             let ciphertext = encrypt_ok(set, &keys, &message, &random);
             assert_eq!(decrypt_ok(set, &keys, &ciphertext), message);
         }
@@ -198,7 +195,7 @@ fn largest_rings() {
         assert_eq!(check(set), 0, "{set:?}");
         let keys = make_keys(set, &mut prng);
         let message = random_message(set, &mut prng);
-        let random = random_for(set, &mut prng);
+        let random = prng.octets_for(set);
         let ciphertext = encrypt_ok(set, &keys, &message, &random);
         assert_eq!(decrypt_ok(set, &keys, &ciphertext), message);
     }
@@ -284,7 +281,7 @@ fn ledger_of_sums() {
                 }
                 1..=3 => {
                     let message = random_message(set, &mut prng);
-                    let random = random_for(set, &mut prng);
+                    let random = prng.octets_for(set);
                     ciphertexts.push(encrypt_ok(set, &keys, &message, &random));
                     ledger.encrypted(&message);
                 }
@@ -318,7 +315,7 @@ fn multiples_of_the_key_change_nothing() {
     for set in SETS {
         let keys = make_keys(set, &mut prng);
         let message = random_message(set, &mut prng);
-        let random = random_for(set, &mut prng);
+        let random = prng.octets_for(set);
         let ciphertext = encrypt_ok(set, &keys, &message, &random);
 
         let key = read_polynomial(set, set.dx, &keys.public_key).expect("below q");
@@ -365,63 +362,84 @@ fn product_by_definition() {
     }
 }
 
-/// Every buffer one too short or too long: 6, nothing touched. Then the order of 7, 8, 9 and 10.
+/// Small elements of 6 bits: two unused bits each.
+const SIX_BITS: Set = set(4, 4001, 3, 1, 1, 4);
+
+/// The numbers of keygen, the zero test, encrypt and decrypt with buffers of these sizes (secret
+/// key, public key, message, ciphertext, work words), every given octet bad and no random octets.
+/// Work words are left at 6 and otherwise zero; nothing else is touched.
+fn numbers_of_bad_calls(sizes: [usize; 5]) -> [u32; 4] {
+    let set = SIX_BITS;
+    let octets = [0, 1, 2, 3].map(|i| vec![0xEE; sizes[i]]);
+    let [mut sk, mut pk, mut m, mut c] = octets.clone();
+    let mut work = [(); 4].map(|()| vec![7; sizes[4]]);
+    let [of_keygen, of_is_zero, of_encrypt, of_decrypt] = &mut work;
+    let (mut used, mut groups, mut elements, mut zero) = (99, 77, 55, 33);
+    let numbers = [
+        keygen(
+            set,
+            &[],
+            &mut sk,
+            &mut pk,
+            of_keygen,
+            &mut used,
+            &mut groups,
+            &mut elements,
+        ),
+        is_zero(set, &sk, &pk, of_is_zero, &mut zero),
+        encrypt(
+            set,
+            &pk,
+            &m,
+            &[],
+            &mut c,
+            of_encrypt,
+            &mut used,
+            &mut groups,
+        ),
+        decrypt(set, &sk, &c, &mut m, of_decrypt),
+    ];
+    for (number, words) in numbers.into_iter().zip(work) {
+        let wanted = if number == 6 { 7 } else { 0 };
+        assert_eq!(words, vec![wanted; sizes[4]]);
+    }
+    assert_eq!((used, groups, elements, zero), (99, 77, 55, 33));
+    assert_eq!([sk, pk, m, c], octets);
+    numbers
+}
+
+/// Each buffer one too short or too long: 6, before 7, 8 and 9.
 #[test]
-fn refusal_order_and_work_words() {
-    let set = set(4, 4001, 3, 1, 1, 4);
+fn lengths_come_first() {
+    let set = SIX_BITS;
     assert_eq!(check(set), 0);
-    let good = [2, 18, 1, 36, 24];
-    assert_eq!(
-        good,
-        [
-            set.secret_key_octets(),
-            set.public_key_octets(),
-            set.message_octets(),
-            set.ciphertext_octets(),
-            set.work_words()
-        ]
-    );
-    // Every given octet is bad as well, so that 6 has to win over 7, 8 and 9.
-    for at in 0..5 {
+    let good = [
+        set.secret_key_octets(),
+        set.public_key_octets(),
+        set.message_octets(),
+        set.ciphertext_octets(),
+        set.work_words(),
+    ];
+    assert_eq!(good, [2, 18, 1, 36, 24]);
+    assert_eq!(numbers_of_bad_calls(good), [9, 7, 7, 7]);
+    for (at, wanted) in [
+        (0, [6, 6, 7, 6]),
+        (1, [6, 6, 6, 7]),
+        (2, [9, 7, 6, 6]),
+        (3, [9, 7, 6, 6]),
+        (4, [6, 6, 6, 6]),
+    ] {
         for change in [-1, 1] {
             let mut sizes = good;
             sizes[at] = sizes[at].wrapping_add_signed(change);
-            let octets = |i: usize| vec![0xEE; sizes[i]];
-            let words = vec![7; sizes[4]];
-
-            let (mut sk, mut pk, mut m, mut c) = (octets(0), octets(1), octets(2), octets(3));
-            let mut w = words.clone();
-            let (mut used, mut dropped, mut zero) = (99, 77, 55);
-            let number = keygen(set, &[], &mut sk, &mut pk, &mut w, &mut used, &mut dropped);
-            let wanted = if [0, 1, 4].contains(&at) { 6 } else { 9 };
-            assert_eq!(number, wanted);
-            assert_eq!(w == words, wanted == 6);
-
-            let mut w = words.clone();
-            let number = is_zero(set, &sk, &pk, &mut w, &mut zero);
-            let wanted = if [0, 1, 4].contains(&at) { 6 } else { 7 };
-            assert_eq!(number, wanted);
-            assert_eq!(w == words, wanted == 6);
-
-            let mut w = words.clone();
-            let number = encrypt(set, &pk, &m, &[], &mut c, &mut w, &mut used, &mut dropped);
-            let wanted = if at != 0 { 6 } else { 7 };
-            assert_eq!(number, wanted);
-            assert_eq!(w == words, wanted == 6);
-
-            let mut w = words.clone();
-            let number = decrypt(set, &sk, &c, &mut m, &mut w);
-            let wanted = if at != 1 { 6 } else { 7 };
-            assert_eq!(number, wanted);
-            assert_eq!(w == words, wanted == 6);
-
-            assert_eq!((used, dropped, zero), (99, 77, 55));
-            for (i, buffer) in [&sk, &pk, &m, &c].into_iter().enumerate() {
-                assert_eq!(*buffer, octets(i));
-            }
+            assert_eq!(numbers_of_bad_calls(sizes), wanted);
         }
     }
+}
 
+#[test]
+fn order_of_the_later_numbers() {
+    let set = SIX_BITS;
     // 8 before 9.
     let mut c = vec![0xEE; 36];
     let mut w = vec![7; 24];
@@ -437,18 +455,26 @@ fn refusal_order_and_work_words() {
     );
     assert_eq!((number, w), (8, vec![0; 24]));
     assert_eq!(c, [0xEE; 36]);
-    // 8 before 10; u_y's padding alone is 7.
+    // 8 before 14; the padding of either half is 7, and without it a zero top is 14.
     let mut m = vec![0xEE; 1];
     let mut w = vec![7; 24];
     assert_eq!(decrypt(set, &[0, 0], &c, &mut m, &mut w), 8);
     assert_eq!(decrypt(set, &[0, 0x40], &[0; 36], &mut m, &mut w), 7);
     assert_eq!(decrypt(set, &[0x40, 0], &[0; 36], &mut m, &mut w), 7);
+    assert_eq!(decrypt(set, &[0x3F, 0x0F], &[0; 36], &mut m, &mut w), 14);
+    assert_eq!(decrypt(set, &[0x0F, 0x3F], &[0; 36], &mut m, &mut w), 14);
     assert_eq!(m, [0xEE]);
     assert_eq!(decrypt(set, &[0x3F, 0x3F], &[0; 36], &mut m, &mut w), 0);
     assert_eq!(m, [0]);
+}
 
-    // A refused set leaves everything, whatever the lengths.
-    let bad = Set { mlen: 5, ..set };
+/// A refused set leaves everything, whatever the lengths.
+#[test]
+fn refused_sets() {
+    let bad = Set {
+        mlen: 5,
+        ..SIX_BITS
+    };
     let mut w = vec![7; 3];
     assert_eq!(decrypt(bad, &[], &[], &mut [], &mut w), 5);
     assert_eq!(w, [7; 3]);

@@ -1,5 +1,5 @@
-//! The worked list of document 01, cases 1 to 11, with the dropped groups of document 02's Q-1, and
-//! sums of two coefficients at the limits of their reduction.
+//! The worked list of document 01, cases 1 to 11, with the dropped groups and elements of document
+//! 02's, and sums of two coefficients at the limits of their reduction.
 
 use reference::octets;
 use reference::ring::{self, Polynomial};
@@ -38,12 +38,15 @@ fn ciphertext() -> Vec<u8> {
 /// Octets used and groups dropped, as they are before a call.
 const OLD: [u64; 2] = [99, 77];
 
+/// The same for keygen, with the elements dropped.
+const OLD_OF_KEYGEN: [u64; 3] = [99, 77, 55];
+
 /// Makes keys into marked buffers: the number, both keys, the work words, and the octets used with
-/// the groups dropped.
-fn try_keygen(random: &[u8]) -> (u32, Vec<u8>, Vec<u8>, Vec<u32>, [u64; 2]) {
+/// the groups and the elements dropped.
+fn try_keygen(random: &[u8]) -> (u32, Vec<u8>, Vec<u8>, Vec<u32>, [u64; 3]) {
     let (mut sk, mut pk) = (vec![0xAA; 2], vec![0xBB; 12]);
     let mut work = vec![7; 16];
-    let [mut used, mut dropped] = OLD;
+    let [mut used, mut groups, mut elements] = OLD_OF_KEYGEN;
     let number = keygen(
         A,
         random,
@@ -51,9 +54,10 @@ fn try_keygen(random: &[u8]) -> (u32, Vec<u8>, Vec<u8>, Vec<u32>, [u64; 2]) {
         &mut pk,
         &mut work,
         &mut used,
-        &mut dropped,
+        &mut groups,
+        &mut elements,
     );
-    (number, sk, pk, work, [used, dropped])
+    (number, sk, pk, work, [used, groups, elements])
 }
 
 /// Encrypts into a marked buffer: the number, the ciphertext, the work words, and the octets used
@@ -89,12 +93,12 @@ fn case_1() {
 fn case_2() {
     let got = try_keygen(&key_random());
     let (sk, pk) = (secret_key(), public_key());
-    assert_eq!(got, (0, sk.clone(), pk.clone(), vec![0; 16], [10, 0]));
+    assert_eq!(got, (0, sk.clone(), pk.clone(), vec![0; 16], [10, 0, 0]));
 
     // 1459 after the secret is dropped: the same keys.
     let random = hex("09 04 B3 05 05 00 07 00 64 00 01 00");
     let got = try_keygen(&random);
-    assert_eq!(got, (0, sk.clone(), pk.clone(), vec![0; 16], [12, 1]));
+    assert_eq!(got, (0, sk.clone(), pk.clone(), vec![0; 16], [12, 1, 0]));
 
     let mut zero = 99;
     let mut work = [7; 16];
@@ -154,7 +158,8 @@ fn case_6() {
     assert_eq!(got, (9, vec![0xAA; 24], vec![0; 16], OLD));
 
     let got = try_keygen(&key_random()[..9]);
-    assert_eq!(got, (9, vec![0xAA; 2], vec![0xBB; 12], vec![0; 16], OLD));
+    let wanted = (9, vec![0xAA; 2], vec![0xBB; 12], vec![0; 16], OLD_OF_KEYGEN);
+    assert_eq!(got, wanted);
 }
 
 /// Case 6 with dropped groups: the numbers hold their old values, also where the octets end right
@@ -177,7 +182,7 @@ fn case_6_after_dropped_groups() {
         "09 04 05 00 07 00 64 00 B3 05",
     ] {
         let got = try_keygen(&hex(text));
-        let wanted = (9, vec![0xAA; 2], vec![0xBB; 12], vec![0; 16], OLD);
+        let wanted = (9, vec![0xAA; 2], vec![0xBB; 12], vec![0; 16], OLD_OF_KEYGEN);
         assert_eq!(got, wanted, "{text}");
     }
 }

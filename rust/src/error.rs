@@ -1,12 +1,12 @@
-//! What can go wrong: the refusals of the library, by number, and three errors of this package.
+//! What can go wrong: the refusals of the library, with their numbers and their order, and three errors of this package.
 
 use std::fmt;
 use std::io;
 
 /// Why a call gave no result.
 ///
-/// The first eleven are the library's refusals and have a [number](Error::number). Where several apply to one call, the
-/// lowest is given. The others belong to this package.
+/// The library's refusals have a [number](Error::number); [`Error::REFUSALS`] lists them in their order: where several
+/// apply to one call, the first of them is given. The other errors belong to this package.
 ///
 /// ```
 /// use giophantus::{Error, Parameters};
@@ -41,6 +41,8 @@ pub enum Error {
     Tail,
     /// 11: a line of six numbers is malformed.
     Line,
+    /// 14: an element of a given secret key has a zero top coefficient, that of t^(n - 1).
+    TopCoefficient,
     /// A number that this package does not know: the library is newer than the package.
     Unknown(u32),
     /// Two values that were made under different sets met in one call. No refusal has this meaning, since the library
@@ -51,8 +53,15 @@ pub enum Error {
 }
 
 impl Error {
-    /// The eleven refusals, by rising number.
-    pub const REFUSALS: [Error; 11] = [
+    /// The refusals of the library, in their order: where several apply, the first of these is given. It isn't the order
+    /// of their numbers.
+    ///
+    /// ```
+    /// let numbers = giophantus::Error::REFUSALS.map(|refusal| refusal.number().unwrap());
+    /// assert_eq!(numbers, [11, 1, 2, 3, 4, 5, 6, 7, 8, 14, 9, 10]);
+    /// ```
+    pub const REFUSALS: [Error; 12] = [
+        Error::Line,
         Error::Range,
         Error::Ring,
         Error::Degree,
@@ -61,9 +70,9 @@ impl Error {
         Error::Length,
         Error::Padding,
         Error::Coefficient,
+        Error::TopCoefficient,
         Error::RandomExhausted,
         Error::Tail,
-        Error::Line,
     ];
 
     /// The refusal's number, or `None` for [`DifferentSets`](Error::DifferentSets) and
@@ -81,6 +90,7 @@ impl Error {
             Error::RandomExhausted => Some(9),
             Error::Tail => Some(10),
             Error::Line => Some(11),
+            Error::TopCoefficient => Some(14),
             Error::Unknown(number) => Some(number),
             Error::DifferentSets | Error::RandomSource(_) => None,
         }
@@ -95,11 +105,26 @@ impl Error {
     /// assert_eq!(Error::from_number(0), None);
     /// ```
     pub fn from_number(number: u32) -> Option<Error> {
+        let known = Error::REFUSALS.into_iter().find(|refusal| refusal.number() == Some(number));
         match number {
             0 => None,
-            1..=11 => Some(Error::REFUSALS[number as usize - 1]),
-            _ => Some(Error::Unknown(number)),
+            _ => Some(known.unwrap_or(Error::Unknown(number))),
         }
+    }
+
+    /// Whether this refusal is the one that is given where both apply: it stands before the other in
+    /// [`REFUSALS`](Error::REFUSALS). An error that doesn't stand there comes after all that do.
+    ///
+    /// ```
+    /// use giophantus::Error;
+    ///
+    /// assert!(Error::TopCoefficient.precedes(Error::RandomExhausted)); // 14 and 9
+    /// assert!(!Error::TopCoefficient.precedes(Error::Coefficient)); // 14 and 8
+    /// ```
+    pub fn precedes(self, other: Error) -> bool {
+        let refusals = Error::REFUSALS;
+        let place = |error| refusals.iter().position(|&refusal| refusal == error).unwrap_or(refusals.len());
+        place(self) < place(other)
     }
 
     /// What the error says, in one sentence.
@@ -116,6 +141,7 @@ impl Error {
             Error::RandomExhausted => "the random octets end before the last draw is complete",
             Error::Tail => "a decrypted coefficient past mlen bits isn't zero",
             Error::Line => "a line of six numbers is malformed",
+            Error::TopCoefficient => "an element of the secret key has a zero top coefficient, that of t^(n - 1)",
             Error::Unknown(_) => "the library gave a number that this package does not know",
             Error::DifferentSets => "two values belong to different sets",
             Error::RandomSource(_) => "the source of random octets failed",
@@ -135,9 +161,15 @@ impl Error {
             Error::Coefficient => {
                 "check that the data is undamaged and was made under this set, and that each count is below l"
             }
-            Error::RandomExhausted => "give the same random octets again with more behind them",
+            Error::RandomExhausted => {
+                "give the same random octets again with more behind them; zeros alone never suffice for keys"
+            }
             Error::Tail => "check the secret key, mlen, and that no more ciphertexts were added than the headroom",
             Error::Line => "write l q n dX dr mlen as six decimal numbers with one space between",
+            Error::TopCoefficient => {
+                "check that the key is undamaged and was made under this set; where it is from before keygen dropped \
+                 such elements, make new keys"
+            }
             Error::Unknown(_) => "use the package and the library of one release",
             Error::DifferentSets => "make both under one set; a blank is never added to counts",
             Error::RandomSource(_) => "check the source, or name another",
@@ -165,16 +197,27 @@ mod tests {
     use super::*;
 
     #[test]
-    fn numbers_run_from_1_to_11() {
-        for (at, refusal) in Error::REFUSALS.into_iter().enumerate() {
-            let number = at as u32 + 1;
-            assert_eq!(refusal.number(), Some(number));
-            assert_eq!(Error::from_number(number), Some(refusal));
+    fn numbers_go_both_ways() {
+        for refusal in Error::REFUSALS {
+            assert_eq!(refusal.number().and_then(Error::from_number), Some(refusal));
         }
         assert_eq!(Error::from_number(0), None);
-        assert_eq!(Error::from_number(12), Some(Error::Unknown(12)));
-        assert_eq!(Error::Unknown(12).number(), Some(12));
+        for number in [12, 13, 15, u32::MAX] {
+            assert_eq!(Error::from_number(number), Some(Error::Unknown(number)));
+            assert_eq!(Error::Unknown(number).number(), Some(number));
+        }
         assert_eq!(Error::DifferentSets.number(), None);
+    }
+
+    #[test]
+    fn one_of_two_refusals_precedes_the_other() {
+        for (at, one) in Error::REFUSALS.into_iter().enumerate() {
+            for (place, another) in Error::REFUSALS.into_iter().enumerate() {
+                assert_eq!(one.precedes(another), at < place, "{one:?} and {another:?}");
+            }
+            assert!(one.precedes(Error::Unknown(12)) && !Error::Unknown(12).precedes(one));
+        }
+        assert!(!Error::Unknown(12).precedes(Error::Unknown(13)));
     }
 
     #[test]
@@ -185,7 +228,7 @@ mod tests {
         sentences.push(Error::RandomSource(io::ErrorKind::NotFound).to_string());
         sentences.sort();
         sentences.dedup();
-        assert_eq!(sentences.len(), 14);
+        assert_eq!(sentences.len(), Error::REFUSALS.len() + 3);
         assert!(sentences.iter().all(|one| !one.contains('\n')));
     }
 }

@@ -40,7 +40,7 @@ extern "C" {
         l: u32, q: u32, n: u32, dx: u32, dr: u32, mlen: u32,
         random: *const u8, random_len: usize, secret_key: *mut u8, secret_key_len: usize,
         public_key: *mut u8, public_key_len: usize, work: *mut u32, work_len: usize,
-        used: *mut u64, dropped_groups: *mut u64,
+        used: *mut u64, dropped_groups: *mut u64, dropped_elements: *mut u64,
     ) -> u32;
     fn giophantus_is_zero(
         l: u32, q: u32, n: u32, dx: u32, dr: u32, mlen: u32,
@@ -117,7 +117,7 @@ pub(crate) fn keygen(
     public_key: &mut [u8],
     work: &mut [u32],
 ) -> Result<RandomUse, Error> {
-    let (mut used, mut dropped_groups) = (0, 0);
+    let (mut used, mut dropped_groups, mut dropped_elements) = (0, 0, 0);
     // SAFETY: POINTERS; NO OVERLAP: secret_key, public_key and work are `&mut`, the numbers are locals; NOTHING KEPT.
     accepted(unsafe {
         giophantus_keygen(
@@ -137,9 +137,14 @@ pub(crate) fn keygen(
             work.len(),
             &mut used,
             &mut dropped_groups,
+            &mut dropped_elements,
         )
     })?;
-    Ok(RandomUse { octets: used as usize, dropped_groups: dropped_groups as usize })
+    Ok(RandomUse {
+        octets: used as usize,
+        dropped_groups: dropped_groups as usize,
+        dropped_elements: dropped_elements as usize,
+    })
 }
 
 /// The zero test.
@@ -204,7 +209,7 @@ pub(crate) fn encrypt(
             &mut dropped_groups,
         )
     })?;
-    Ok(RandomUse { octets: used as usize, dropped_groups: dropped_groups as usize })
+    Ok(RandomUse { octets: used as usize, dropped_groups: dropped_groups as usize, dropped_elements: 0 })
 }
 
 /// The sum of two ciphertexts, which may be one.

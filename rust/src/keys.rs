@@ -20,7 +20,7 @@ pub struct Keys<S = AnySet> {
     pub secret_key: SecretKey<S>,
     /// The public key.
     pub public_key: PublicKey<S>,
-    /// How many random octets were used, from the front, and how many groups among them were dropped.
+    /// How many random octets were used, from the front, and how many groups and elements among them were dropped.
     pub used: RandomUse,
 }
 
@@ -46,8 +46,12 @@ impl<S> fmt::Debug for Keys<S> {
 ///
 /// From octets: refusal 6 for a wrong length, 7 where either half has a non-zero unused bit.
 ///
+/// Each element must have degree n - 1: a top coefficient, that of t^(n - 1), that isn't zero. Key generation makes no
+/// other. A secret key from octets or words isn't judged by this; [`decrypt`](Self::decrypt) and
+/// [`is_zero_of`](Self::is_zero_of) refuse it with 14.
+///
 /// ```
-/// use giophantus::{Error, Parameters, SecretKey};
+/// use giophantus::{Error, Parameters, PublicKey, SecretKey};
 ///
 /// let set = Parameters::new(4, 1459, 2, 1, 1, 4)?;
 /// let secret_key = SecretKey::try_from((&set, &[0x09, 0x04][..]))?;
@@ -55,6 +59,10 @@ impl<S> fmt::Debug for Keys<S> {
 ///
 /// let refused = SecretKey::try_from((&set, &[0x09, 0x14][..])).unwrap_err();
 /// assert_eq!(refused, Error::Padding);
+///
+/// let ends_in_zero = SecretKey::from_words(&set, &[1, 2, 3, 0])?; // u_y is 3 + 0t
+/// let public_key = PublicKey::from_words(&set, &[0; 6])?;
+/// assert_eq!(ends_in_zero.is_zero_of(&public_key), Err(Error::TopCoefficient));
 /// # Ok::<(), Error>(())
 /// ```
 pub struct SecretKey<S = AnySet> {
@@ -92,7 +100,7 @@ impl<S> SecretKey<S> {
     }
 
     /// The zero test: whether the public key's value at this secret key is 0. What is promised of decryption holds for
-    /// such a secret key.
+    /// such a secret key. Refusal 14 where either element's top coefficient is zero.
     pub fn is_zero_of(&self, public_key: &PublicKey<S>) -> Result<bool, Error> {
         self.set.same(&public_key.set)?;
         workspace::with(self.set.work_words(), |work| {
@@ -100,9 +108,9 @@ impl<S> SecretKey<S> {
         })
     }
 
-    /// Decrypts a ciphertext, or the sum of several: refusal 10 where a coefficient past mlen bits isn't zero, which a
-    /// wrong key, a wrong mlen, a damaged ciphertext or a sum past the headroom may give. They may as well give wrong
-    /// counts and no refusal.
+    /// Decrypts a ciphertext, or the sum of several: refusal 14 where either element's top coefficient is zero; 10 where
+    /// a coefficient past mlen bits isn't zero, which a wrong key, a wrong mlen, a damaged ciphertext or a sum past the
+    /// headroom may give. They may as well give wrong counts and no refusal.
     ///
     /// ```
     /// use giophantus::{Message, Parameters};
@@ -201,8 +209,8 @@ impl<S> PublicKey<S> {
     }
 
     /// Encrypts as [`encrypt`](Self::encrypt) does, with octets from a reader. It reads exactly the octets that it uses:
-    /// the next call with the same reader goes on behind them. Refusal 9 where the reader ends too early, or gives
-    /// nothing but groups that are dropped.
+    /// the next call with the same reader goes on behind them. Refusal 9 where the reader ends too early, or where some
+    /// 4 MiB of it aren't enough: it then gives nothing but groups that are dropped.
     pub fn encrypt_from(&self, message: &Message<S>, source: impl Read) -> Result<Encrypted<S>, Error> {
         self.encrypt(message, &random::read(&self.set, &self.set.encryption_draws(), source)?)
     }

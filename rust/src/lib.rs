@@ -51,8 +51,9 @@
 //! [`Element`], a ring element, is made in the same ways and holds words: [`Element::multiply_add`] makes a × b + c in
 //! place, for those who follow the ring's arithmetic step by step.
 //!
-//! Every refusal of the library is a variant of [`Error`] with its number, a sentence and what to do. [`RandomUse`] says
-//! what a call used of its random octets. The work words that the library needs are kept for each thread and used again.
+//! Every refusal of the library is a variant of [`Error`] with its number, a sentence and what to do, and
+//! [`Error::REFUSALS`] has them in their order. [`RandomUse`] says what a call used of its random octets. The work words
+//! that the library needs are kept for each thread and used again.
 //!
 //! # What is not here
 //!

@@ -239,9 +239,9 @@ impl<S> Parameters<S> {
         self.element_len() / self.places()
     }
 
-    /// The fixed part of the random octets of key generation, used where no group is dropped:
+    /// The fixed part of the random octets of key generation, used where nothing is dropped:
     /// 2 × ⌈n × b / 8⌉ + qlen × (N(dX) - 1) × n, where N(d) is (d + 1)(d + 2) / 2. For each group that is dropped it uses
-    /// qlen more ([`RandomUse`](crate::RandomUse)).
+    /// qlen more, and for each element ⌈n × b / 8⌉ more ([`RandomUse`](crate::RandomUse)).
     ///
     /// ```
     /// let set = giophantus::Parameters::new(4, 1459, 2, 1, 1, 4)?;
@@ -294,8 +294,8 @@ impl<S> Parameters<S> {
     }
 
     /// Makes a secret key and its public key from random octets: refusal 9 where they end too early. Octets that were
-    /// used once must not be used again; [`Keys::used`] says how many were, from the front, and how many groups among
-    /// them were dropped.
+    /// used once must not be used again; [`Keys::used`] says how many were, from the front, and how many groups and
+    /// elements among them were dropped. Zeros alone are dropped, however many there are.
     ///
     /// ```
     /// use giophantus::{Error, Parameters};
@@ -324,8 +324,8 @@ impl<S> Parameters<S> {
     }
 
     /// Makes keys as [`keygen`](Self::keygen) does, with octets from a reader. It reads exactly the octets that it
-    /// uses: the next call with the same reader goes on behind them. Refusal 9 where the reader ends too early, or gives
-    /// nothing but groups that are dropped.
+    /// uses: the next call with the same reader goes on behind them. Refusal 9 where the reader ends too early, or where
+    /// some 4 MiB of it aren't enough: it then gives nothing but elements or groups that are dropped.
     ///
     /// ```no_run
     /// use std::fs::File;
@@ -340,16 +340,12 @@ impl<S> Parameters<S> {
 
     /// The draws of key generation: u_x and u_y, then the elements of the public key but the constant.
     fn keygen_draws(&self) -> Draws {
-        Draws { before: self.lengths.secret_key, below_q: self.public_key_words() - self.places(), after: 0 }
+        Draws { secret: 2, below_q: self.public_key_words() - self.places(), noise: 0 }
     }
 
     /// The draws of an encryption: the elements of r, then the small elements of e.
     pub(crate) fn encryption_draws(&self) -> Draws {
-        Draws {
-            before: 0,
-            below_q: monomials(self.dr()) * self.places(),
-            after: monomials(self.dx() + self.dr()) * self.small_len(),
-        }
+        Draws { secret: 0, below_q: monomials(self.dr()) * self.places(), noise: monomials(self.dx() + self.dr()) }
     }
 
     /// The n coefficients of a ring element: refusal 6 for a wrong length, 8 for a coefficient of q or more.

@@ -11,8 +11,21 @@ use crate::parameters::Parameters;
 /// length of q, is q or more, the group is dropped and the next is taken. That is no fault: with q just above a power of
 /// two nearly every second group is dropped, with q just below one hardly any.
 ///
-/// `octets` is qlen × `dropped_groups` more than [`Parameters::keygen_fixed_octets`] for keys, and than
-/// [`Parameters::encryption_fixed_octets`] for a ciphertext.
+/// Key generation draws u_x and u_y from ⌈n × b / 8⌉ octets each ([`Parameters::small_len`]). An element whose top
+/// coefficient, that of t^(n - 1), is zero is dropped whole and the next octets are taken: one in ℓ. Encryption drops no
+/// elements.
+///
+/// `octets` is qlen × `dropped_groups` + ⌈n × b / 8⌉ × `dropped_elements` more than
+/// [`Parameters::keygen_fixed_octets`] for keys, and than [`Parameters::encryption_fixed_octets`] for a ciphertext.
+///
+/// ```
+/// let set = giophantus::Parameters::new(4, 1459, 2, 1, 1, 4)?;
+/// // The first octet is the element 1 + 0t, which is dropped; u_x is 1 + 2t and u_y is t.
+/// let used = set.keygen(&[0x01, 0x09, 0x04, 5, 0, 7, 0, 100, 0, 1, 0])?.used;
+/// assert_eq!((used.octets, used.dropped_groups, used.dropped_elements), (11, 0, 1));
+/// assert_eq!(used.octets, set.keygen_fixed_octets() + set.small_len() * used.dropped_elements);
+/// # Ok::<(), giophantus::Error>(())
+/// ```
 ///
 /// ```
 /// use giophantus::{Message, Parameters, PublicKey};
@@ -31,27 +44,29 @@ use crate::parameters::Parameters;
 #[non_exhaustive]
 #[derive(Clone, Copy, Debug, PartialEq, Eq)]
 pub struct RandomUse {
-    /// The octets used, from the front, those of dropped groups among them.
+    /// The octets used, from the front, those of dropped groups and elements among them.
     pub octets: usize,
     /// The groups of qlen octets that were dropped.
     pub dropped_groups: usize,
+    /// The elements of ⌈n × b / 8⌉ octets that were dropped; 0 for a ciphertext.
+    pub dropped_elements: usize,
 }
 
 /// Of one reader about this many octets are read for one call at most: some 80 times what the largest sets need. A source
-/// that gives nothing but octets that are dropped ends here, as exhausted.
+/// that gives nothing but octets that are dropped ends here, as exhausted. The documentation of `keygen_from` says it.
 const MOST: usize = 1 << 22;
 
-/// The draws of a call in turn: octets of small elements, draws below q, octets of small elements.
+/// The draws of a call in turn: elements of a secret key, numbers below q, elements of the noise.
 pub(crate) struct Draws {
-    pub before: usize,
+    pub secret: usize,
     pub below_q: usize,
-    pub after: usize,
+    pub noise: usize,
 }
 
 impl Draws {
-    /// The octets that they use where no group is dropped.
+    /// The octets that they use where nothing is dropped.
     pub fn fixed_octets<S>(&self, set: &Parameters<S>) -> usize {
-        self.before + self.below_q * set.coefficient_len() + self.after
+        (self.secret + self.noise) * set.small_len() + self.below_q * set.coefficient_len()
     }
 }
 
@@ -59,19 +74,33 @@ impl Draws {
 /// octets are exhausted.
 pub(crate) fn read<S>(set: &Parameters<S>, draws: &Draws, mut source: impl Read) -> Result<Vec<u8>, Error> {
     let mut octets = Vec::new();
-    if !read_more(&mut source, draws.before, &mut octets)? {
-        return Ok(octets);
+    let secret = |element: &[u8]| has_zero_top(set, element);
+    let below_q = |group: &[u8]| is_too_large(set, group);
+    if read_kept(&mut source, draws.secret, set.small_len(), secret, &mut octets)?
+        && read_kept(&mut source, draws.below_q, set.coefficient_len(), below_q, &mut octets)?
+    {
+        read_more(&mut source, draws.noise * set.small_len(), &mut octets)?;
     }
-    let mut missing = draws.below_q;
+    Ok(octets)
+}
+
+/// Reads pieces of `len` octets until `count` of them aren't dropped; says whether the reader had as many.
+fn read_kept(
+    source: &mut impl Read,
+    count: usize,
+    len: usize,
+    is_dropped: impl Fn(&[u8]) -> bool,
+    octets: &mut Vec<u8>,
+) -> Result<bool, Error> {
+    let mut missing = count;
     while missing > 0 {
         let start = octets.len();
-        if start > MOST || !read_more(&mut source, missing * set.coefficient_len(), &mut octets)? {
-            return Ok(octets);
+        if start > MOST || !read_more(source, missing * len, octets)? {
+            return Ok(false);
         }
-        missing = octets[start..].chunks_exact(set.coefficient_len()).filter(|group| is_dropped(set, group)).count();
+        missing = octets[start..].chunks_exact(len).filter(|piece| is_dropped(piece)).count();
     }
-    read_more(&mut source, draws.after, &mut octets)?;
-    Ok(octets)
+    Ok(true)
 }
 
 /// Reads `count` octets behind those that are there; says whether the reader had as many.
@@ -81,8 +110,18 @@ fn read_more(source: &mut impl Read, count: usize, octets: &mut Vec<u8>) -> Resu
     Ok(got == count)
 }
 
-/// Will this group of octets be dropped by a draw below q? The library decides; this only says how many octets to read.
-fn is_dropped<S>(set: &Parameters<S>, group: &[u8]) -> bool {
+// The library decides what is dropped; these two only say how many octets to read.
+
+/// Will this packed element be dropped by a draw of u_x or u_y: is its coefficient of t^(n - 1) zero? Its b bits may
+/// stand in two octets, and unused bits may stand behind them.
+fn has_zero_top<S>(set: &Parameters<S>, element: &[u8]) -> bool {
+    let b = set.b() as usize;
+    let first = (set.places() - 1) * b;
+    (first..first + b).all(|bit| element[bit / 8] >> (bit % 8) & 1 == 0)
+}
+
+/// Will this group of octets be dropped by a draw below q?
+fn is_too_large<S>(set: &Parameters<S>, group: &[u8]) -> bool {
     let number = group.iter().rev().fold(0u64, |number, &octet| number << 8 | u64::from(octet));
     let bits = u32::BITS - set.q().leading_zeros();
     number % (1 << bits) >= u64::from(set.q())
@@ -99,29 +138,65 @@ mod tests {
     #[test]
     fn groups_of_q_or_more_are_dropped() {
         let set = set();
-        assert!(!is_dropped(&set, &[0xB2, 0x05])); // 1458
-        assert!(is_dropped(&set, &[0xB3, 0x05])); // 1459
-        assert!(!is_dropped(&set, &[0x01, 0x08])); // 2049, which is 1 modulo 2048
-        assert!(is_dropped(&set, &[0xFF, 0xFF]));
+        assert!(!is_too_large(&set, &[0xB2, 0x05])); // 1458
+        assert!(is_too_large(&set, &[0xB3, 0x05])); // 1459
+        assert!(!is_too_large(&set, &[0x01, 0x08])); // 2049, which is 1 modulo 2048
+        assert!(is_too_large(&set, &[0xFF, 0xFF]));
+    }
+
+    /// With one bit set, each in turn, as the library's conversion has it; unused bits, which that refuses, don't count.
+    #[test]
+    fn elements_with_a_zero_top_coefficient_are_dropped() {
+        for line in [
+            "2 251 3 1 1 2",
+            "4 1459 2 1 1 4",
+            "4 2147483647 8 1 1 0",
+            "8 8388593 3 1 1 9",
+            "8 2147483647 8 1 1 0",
+            "16 2147483647 3 1 1 0",
+        ] {
+            let set: Parameters = line.parse().unwrap();
+            let mut kept = 0;
+            for bit in 0..8 * set.small_len() {
+                let mut element = vec![0; set.small_len()];
+                element[bit / 8] = 1 << (bit % 8);
+                let words = set.small_from_octets(&element).unwrap_or(vec![0; set.places()]);
+                assert_eq!(has_zero_top(&set, &element), words.last() == Some(&0), "{set}: bit {bit}");
+                kept += usize::from(!has_zero_top(&set, &element));
+            }
+            assert_eq!(kept, set.b() as usize, "{set}");
+        }
     }
 
     #[test]
     fn reads_one_group_more_for_each_that_is_dropped() {
         let source: &[u8] = &[9, 0xB3, 5, 1, 0, 0xFF, 0xFF, 2, 0, 7, 8, 99, 99];
-        let octets = read(&set(), &Draws { before: 1, below_q: 2, after: 2 }, source).unwrap();
+        let octets = read(&set(), &Draws { secret: 1, below_q: 2, noise: 2 }, source).unwrap();
         assert_eq!(octets, source[..11]);
     }
 
+    /// 0xF3 is 3 + 0t with unused bits; those of the noise are never dropped.
     #[test]
-    fn an_endless_source_of_dropped_groups_comes_to_an_end() {
-        let octets = read(&set(), &Draws { before: 1, below_q: 1 << 16, after: 1 }, std::io::repeat(0xFF)).unwrap();
-        assert!(octets.len() <= MOST + (1 << 18));
+    fn reads_one_element_more_for_each_that_is_dropped() {
+        let source: &[u8] = &[0, 0xF3, 9, 1, 4, 5, 0, 0, 3, 99, 99];
+        let octets = read(&set(), &Draws { secret: 2, below_q: 1, noise: 2 }, source).unwrap();
+        assert_eq!(octets, source[..9]);
+    }
+
+    #[test]
+    fn an_endless_source_of_dropped_octets_comes_to_an_end() {
+        for (octet, secret, below_q) in [(0xFF, 1, 1 << 16), (0, 2, 1)] {
+            let octets = read(&set(), &Draws { secret, below_q, noise: 1 }, std::io::repeat(octet)).unwrap();
+            assert!((MOST + 1..=MOST + (1 << 18)).contains(&octets.len()));
+        }
     }
 
     #[test]
     fn a_reader_that_ends_gives_what_it_had() {
-        let octets = read(&set(), &Draws { before: 1, below_q: 2, after: 2 }, &[1u8, 2, 3][..]).unwrap();
-        assert_eq!(octets, [1, 2, 3]);
+        // In the elements, which are all dropped, in the groups and in the noise.
+        for had in [&[1, 2, 3][..], &[9, 2, 3], &[9, 2, 3, 4, 5, 6]] {
+            assert_eq!(read(&set(), &Draws { secret: 1, below_q: 2, noise: 2 }, had).unwrap(), had);
+        }
     }
 
     #[test]
@@ -132,7 +207,7 @@ mod tests {
                 Err(std::io::ErrorKind::PermissionDenied.into())
             }
         }
-        let failed = read(&set(), &Draws { before: 1, below_q: 2, after: 2 }, Broken);
+        let failed = read(&set(), &Draws { secret: 1, below_q: 2, noise: 2 }, Broken);
         assert_eq!(failed, Err(Error::RandomSource(std::io::ErrorKind::PermissionDenied)));
     }
 }

@@ -8,6 +8,8 @@ use std::path::{Path, PathBuf};
 use std::process::{Command, Output, Stdio};
 use std::sync::atomic::{AtomicU32, Ordering};
 
+use giophantus::Error;
+
 const SET: &str = "4 65521 2 1 1 4";
 const SET_A: &str = "4 1459 2 1 1 4";
 
@@ -140,7 +142,8 @@ fn worked_cases() {
     let keys = ["keygen", "--set", SET_A, "--random", "octets", "--secret-key", "s", "--public-key", "p"];
     let output = place.run(&keys);
     assert_eq!(status(&output), 0);
-    assert_eq!(said(&output), "giophantus: 10 random octets used, 0 groups of 2 octets dropped\n");
+    let line = "giophantus: 10 random octets used, 0 groups of 2 octets and 0 elements of 1 octet dropped\n";
+    assert_eq!(said(&output), line);
     assert_eq!(place.read("s"), place.read("secret"));
     assert_eq!(place.read("p"), place.read("public"));
 
@@ -172,17 +175,38 @@ fn a_group_that_encrypt_drops_is_said() {
 }
 
 #[test]
-fn groups_that_keygen_drops_are_said() {
+fn what_keygen_drops_is_said() {
     let place = Place::worked();
-    place.write("octets", &[9, 4, 5, 0, 0xB3, 5, 7, 0, 0x64, 0, 0xFF, 0xFF, 1, 0]);
     let keygen = ["keygen", "--secret-key", "s", "--public-key", "p", "--force", "--random", "octets", "--set"];
-    let output = place.run(&[&keygen[..], &[SET_A]].concat());
-    assert_eq!(said(&output), "giophantus: 14 random octets used, 2 groups of 2 octets dropped\n");
-    assert_eq!((place.read("s"), place.read("p")), (place.read("secret"), place.read("public")));
+    for (octets, line) in [
+        (
+            &[9, 4, 5, 0, 0xB3, 5, 7, 0, 0x64, 0, 0xFF, 0xFF, 1, 0][..],
+            "giophantus: 14 random octets used, 2 groups of 2 octets and 0 elements of 1 octet dropped\n",
+        ),
+        // As docs/GUIDE.md shows it: 0x03 is 3 + 0t.
+        (
+            &[3, 9, 4, 5, 0, 7, 0, 0xB3, 5, 0x64, 0, 1, 0, 99],
+            "giophantus: 13 random octets used, 1 group of 2 octets and 1 element of 1 octet dropped\n",
+        ),
+        (
+            &[0, 0x31, 9, 0xF0, 2, 4, 5, 0, 7, 0, 0x64, 0, 1, 0],
+            "giophantus: 14 random octets used, 0 groups of 2 octets and 4 elements of 1 octet dropped\n",
+        ),
+    ] {
+        place.write("octets", octets);
+        assert_eq!(said(&place.run(&[&keygen[..], &[SET_A]].concat())), line);
+        assert_eq!((place.read("s"), place.read("p")), (place.read("secret"), place.read("public")));
+    }
     // A group is one octet; 73 is dropped, and behind the last draw nothing is.
-    place.write("octets", &[1, 2, 73, 72, 0, 0, 0, 73]);
+    place.write("octets", &[2, 3, 73, 72, 0, 0, 0, 73]);
     let output = place.run(&[&keygen[..], &["2 73 2 1 1 2"]].concat());
-    assert_eq!(said(&output), "giophantus: 7 random octets used, 1 group of 1 octet dropped\n");
+    let line = "giophantus: 7 random octets used, 1 group of 1 octet and 0 elements of 1 octet dropped\n";
+    assert_eq!(said(&output), line);
+    // An element is two octets; its top coefficient is the upper two bits of the first and the lowest of the second.
+    place.write("octets", &[&[0x3F, 0xFE, 0x40, 0, 0x3F, 0, 0, 1][..], &[1; 18]].concat());
+    let output = place.run(&[&keygen[..], &["8 8388593 3 1 1 9"]].concat());
+    let line = "giophantus: 26 random octets used, 0 groups of 3 octets and 2 elements of 2 octets dropped\n";
+    assert_eq!(said(&output), line);
 }
 
 /// Neither where the octets come from the system, nor with a refusal.
@@ -191,10 +215,11 @@ fn nothing_is_said_to_be_used() {
     let place = Place::worked();
     let encrypt = ["encrypt", "--set", SET_A, "--public-key", "public", "--counts", "2 3", "--out", "c"];
     let keygen = ["keygen", "--set", SET_A, "--secret-key", "s", "--public-key", "p"];
-    // As many as are used where no group is dropped.
-    place.write("for-keys", &[9, 4, 5, 0, 0xB3, 5, 7, 0, 0x64, 0]);
+    // As many as are used where nothing is dropped.
+    place.write("groups", &[9, 4, 5, 0, 0xB3, 5, 7, 0, 0x64, 0]);
+    place.write("elements", &[9, 0, 4, 5, 0, 7, 0, 0x64, 0, 1]);
     place.write("for-c", &[&[0xB3, 0x05], &place.read("random")[..16]].concat());
-    for (command, random) in [(&keygen[..], "for-keys"), (&encrypt, "for-c")] {
+    for (command, random) in [(&keygen[..], "groups"), (&keygen, "elements"), (&encrypt, "for-c")] {
         let output = place.run(&[command, &["--random", random]].concat());
         judge(&output, 9, "refusal 9");
         assert!(!said(&output).contains("used") && !said(&output).contains("dropped"), "{}", said(&output));
@@ -256,16 +281,42 @@ fn the_exit_status_is_the_refusal() {
     place.bad(&["decrypt", "--set", "4 1459 2 1 1 2", "--secret-key", "secret", "sent"], 10, "sent: refusal 10");
 }
 
+/// u_x or u_y is 3 + 0t: decrypt and is-zero refuse it and name the secret key's file; convert doesn't judge it.
 #[test]
-fn of_several_refusals_the_lowest_is_given() {
+fn a_secret_key_that_ends_in_zero() {
     let place = Place::worked();
-    place.write("padded", &[0x09, 0x14]);
+    for (octets, words) in [([0x03, 0x04], "3 0\n0 1\n"), ([0x09, 0x03], "1 2\n3 0\n"), ([0, 0], "0 0\n0 0\n")] {
+        place.write("ends-in-zero", &octets);
+        for set in [SET_A, "4 1459 2 1 1 2", "4 1459 2 1 1 0"] {
+            let key = ["--set", set, "--secret-key", "ends-in-zero"];
+            place.bad(&[&["decrypt"], &key[..], &["sent"]].concat(), 14, "ends-in-zero: refusal 14: ");
+            place.bad(
+                &[&["is-zero"], &key[..], &["--public-key", "public"]].concat(),
+                14,
+                "ends-in-zero: refusal 14: ",
+            );
+        }
+        let convert = ["convert", "--set", SET_A, "--kind", "secret-key", "--to", "words", "ends-in-zero"];
+        assert_eq!(place.good(&convert), words);
+    }
+}
+
+#[test]
+fn of_several_refusals_the_first_in_their_order_is_given() {
+    let place = Place::worked();
+    place.write("ends-in-zero", &[0x09, 0x03]);
+    place.write("padded", &[0x03, 0x14]);
     place.write("large", &[0xFF; 24]);
     place.write("short", &[0xFF; 23]);
     place.bad(&["decrypt", "--set", SET_A, "--secret-key", "padded", "short"], 6, "short (24");
     place.bad(&["decrypt", "--set", SET_A, "--secret-key", "padded", "large"], 7, "padded: ");
+    place.bad(&["decrypt", "--set", SET_A, "--secret-key", "padded", "sent"], 7, "padded: ");
+    place.bad(&["decrypt", "--set", SET_A, "--secret-key", "ends-in-zero", "short"], 6, "short (24");
+    place.bad(&["decrypt", "--set", SET_A, "--secret-key", "ends-in-zero", "large"], 8, "large: ");
     place.bad(&["add", "--set", SET_A, "large", "sent", "short"], 6, "short (24");
     place.write("wrong-key", &[0xFF; 12]);
+    let is_zero = ["is-zero", "--set", SET_A, "--secret-key", "ends-in-zero", "--public-key", "wrong-key"];
+    place.bad(&is_zero, 8, "wrong-key: ");
     let encrypt = ["encrypt", "--set", SET_A, "--public-key", "wrong-key", "--random", "short", "--counts", "1"];
     place.bad(&encrypt, 6, "--counts (2 expected");
 }
@@ -380,7 +431,7 @@ fn a_product_is_refused() {
         (["large", "b", "c"], 8, "large: refusal 8"),
         (["a", "large", "c"], 8, "large: refusal 8"),
         (["a", "b", "large"], 8, "large: refusal 8"),
-        // The lowest, and of equal ones the first.
+        // The first in the order of refusals, and of equal ones the first file.
         (["large", "large", "short"], 6, "short (4"),
         (["large", "short", "large"], 6, "short (4"),
         (["a", "short", "/dev/zero"], 6, "short (4"),
@@ -413,7 +464,7 @@ fn limits_are_printed() {
         "bound                1455",
         "headroom             45",
         "ciphertext octets    24",
-        "keygen uses          10 random octets, and 2 for each group dropped",
+        "keygen uses          10 random octets, and 2 for each group and 1 for each element dropped",
         "encrypt uses         18 random octets, and 2 for each group dropped",
     ] {
         assert!(text.lines().any(|one| one == line), "{text}");
@@ -431,6 +482,10 @@ fn help_for_each_command() {
         assert!(help.starts_with(&format!("giophantus {command}: ")) && help.contains("usage: "), "{help}");
         assert_eq!(help, place.good(&[command, "-h"]));
     }
+    // The refusals, in their order.
+    let statuses = program.lines().skip_while(|line| !line.starts_with("Exit status")).skip(1);
+    let numbers: Vec<u32> = statuses.map_while(|line| line.split_whitespace().next()?.parse().ok()).collect();
+    assert_eq!(numbers, Error::REFUSALS.map(|refusal| refusal.number().unwrap()));
     for text in [&program, &place.good(&["--version"])] {
         assert!(text.lines().all(|line| line.chars().count() <= 110));
     }
@@ -518,6 +573,7 @@ fn endless_input_comes_to_an_end() {
     let place = Place::worked();
     place.bad(&["add", "--set", SET_A, "sent", "/dev/zero"], 6, "/dev/zero (24 octets expected, more found)");
     place.bad(&["convert", "--set", SET_A, "--kind", "small", "--to", "octets", "/dev/zero"], 65, "too long");
-    place.good(&["keygen", "--set", SET_A, "--random", "/dev/zero", "--secret-key", "s", "--public-key", "p"]);
-    assert_eq!(place.read("s"), [0, 0]);
+    let keygen = ["keygen", "--set", SET_A, "--random", "/dev/zero", "--secret-key", "s", "--public-key", "p"];
+    place.bad(&keygen, 9, "/dev/zero: refusal 9");
+    assert!(!place.has("s") && !place.has("p"));
 }

@@ -73,6 +73,7 @@ fn largest_n() {
     }
 }
 
+/// In their order.
 #[test]
 fn every_refusal_is_explained() {
     let guide = guide();
@@ -115,26 +116,67 @@ fn groups_to_provide(draws: u32, kept: f64) -> u32 {
     (2.0 * average(draws, kept) + 30.0).ceil() as u32
 }
 
-/// The fixed part of a call's random octets, the groups dropped on average, and the octets to provide.
-fn random_cells(set: &Parameters, fixed: usize, draws: u32) -> [String; 3] {
+/// The groups of a call dropped on average, and the octets to provide besides those of elements.
+fn group_cells(set: &Parameters, fixed: usize, draws: u32) -> (String, usize) {
     let kept = kept(set);
     let provided = fixed + set.coefficient_len() * groups_to_provide(draws, kept) as usize;
-    [fixed.to_string(), format!("{:.1}", average(draws, kept)), provided.to_string()]
+    (format!("{:.1}", average(draws, kept)), provided)
+}
+
+/// How likely it is that an element of a secret key is kept.
+fn kept_element(l: u32) -> f64 {
+    1.0 - 1.0 / f64::from(l)
+}
+
+/// The elements to provide besides the two that are kept.
+fn elements_to_provide(l: u32) -> u32 {
+    30u32.div_ceil(l.ilog2())
 }
 
 #[test]
 fn random_octets() {
     for (set, cells) in random_rows() {
-        // Zeros are never dropped.
+        // Groups of zeros are never dropped, and elements of ones aren't.
         let zeros = vec![0; 1 << 16];
-        let keys = set.keygen(&zeros).unwrap();
+        let keys = set.keygen(&[&vec![0xFF; set.secret_key_len()], &zeros[..]].concat()).unwrap();
         let message = Message::from_counts(&set, &vec![0; set.counts_len()]).unwrap();
         let encrypted = keys.public_key.encrypt(&message, &zeros).unwrap();
         let [for_keys, for_ciphertext] = draws(&set);
-        let mut expected = random_cells(&set, keys.used.octets, for_keys).to_vec();
-        expected.extend(random_cells(&set, encrypted.used.octets, for_ciphertext));
+        let (groups, provided) = group_cells(&set, keys.used.octets, for_keys);
+        let provided = provided + set.small_len() * elements_to_provide(set.l()) as usize;
+        let elements = format!("{:.2}", average(2, kept_element(set.l())));
+        let mut expected = vec![keys.used.octets.to_string(), groups, elements, provided.to_string()];
+        let (groups, provided) = group_cells(&set, encrypted.used.octets, for_ciphertext);
+        expected.extend([encrypted.used.octets.to_string(), groups, provided.to_string()]);
         assert_eq!(cells, expected, "{set}");
     }
+}
+
+/// As the program says them: tests/cli.rs.
+#[test]
+fn the_lines_about_random_octets_add_up() {
+    let guide = guide();
+    let set: Parameters = "4 1459 2 1 1 4".parse().unwrap();
+    let keys = set.keygen(&[3, 9, 4, 5, 0, 7, 0, 0xB3, 5, 0x64, 0, 1, 0]).unwrap();
+    let (octets, groups, elements) = (keys.used.octets, keys.used.dropped_groups, keys.used.dropped_elements);
+    assert_eq!((groups, elements), (1, 1));
+    assert!(
+        guide.contains(&format!("{octets} random octets used, 1 group of 2 octets and 1 element of 1 octet dropped"))
+    );
+    assert!(guide.contains(&format!("{octets} = {} + 2 × 1 + 1 × 1,", set.keygen_fixed_octets())));
+    let fixed = set.encryption_fixed_octets();
+    assert!(guide.contains(&format!("{} = {fixed} + 2 × 1.", fixed + 2)));
+}
+
+/// How many elements of a secret key are dropped on average, and how many secret keys of before have one.
+#[test]
+fn elements_by_l() {
+    let guide = guide();
+    let [two, four, eight, sixteen] = [2, 4, 8, 16].map(|l| average(2, kept_element(l)));
+    assert!(guide.contains(&format!("{two}, {four:.2}, {eight:.2} and {sixteen:.2} for ℓ = 2, 4, 8 and 16")));
+    let [two, four, eight, sixteen] = [2, 4, 8, 16].map(|l| 100.0 * (1.0 - kept_element(l).powi(2)));
+    assert!(guide
+        .contains(&format!("{two:.0}, {four:.0}, {eight:.0} and {sixteen:.0} in 100 of them for ℓ = 2, 4, 8 and 16")));
 }
 
 /// How likely it is that fewer groups than draws are kept, where each is kept with this probability.
@@ -151,16 +193,19 @@ fn exhausted(draws: u32, groups: u32, kept: f64) -> f64 {
 }
 
 /// Fewer than one call in ten million is refused with 9. A group is kept with probability a half or more. Tried for up to
-/// 400 draws and for those of the table's rows, with each percentage and with the rows' own probabilities.
+/// 400 draws and for those of the table's rows, with each percentage and with the rows' own probabilities; elements may be
+/// the fault as well.
 #[test]
 fn the_octets_to_provide_suffice() {
     assert!((exhausted(2, 3, 0.5) - 0.5).abs() < 1e-9);
+    let elements = [2, 4, 8, 16].map(|l| exhausted(2, 2 + elements_to_provide(l), kept_element(l)));
+    let elements = elements.into_iter().fold(0.0, f64::max);
     let sets: Vec<Parameters> = random_rows().into_iter().map(|(set, _)| set).collect();
     for draws in (4..=400).chain(sets.iter().flat_map(draws)) {
         let percentages = (50..100).map(|percent| f64::from(percent) / 100.0);
         for kept in percentages.chain(sets.iter().map(kept)) {
             let groups = draws + groups_to_provide(draws, kept);
-            assert!(exhausted(draws, groups, kept) < 1e-7, "{draws} draws, {kept}");
+            assert!(elements + exhausted(draws, groups, kept) < 1e-7, "{draws} draws, {kept}");
         }
     }
 }

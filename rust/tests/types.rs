@@ -79,7 +79,7 @@ fn sums_within_the_headroom_decrypt_to_the_totals() {
 
 #[test]
 fn a_reader_gives_what_a_slice_gives_and_loses_nothing() {
-    let (mut dropped_by_keygen, mut dropped_by_encryption) = (0, 0);
+    let (mut dropped_by_keygen, mut dropped_elements, mut dropped_by_encryption) = (0, 0, 0);
     for set in sets() {
         let mut source = vec![0; 1 << 16];
         Octets(u64::from(set.n())).read_exact(&mut source).unwrap();
@@ -91,6 +91,7 @@ fn a_reader_gives_what_a_slice_gives_and_loses_nothing() {
         assert_eq!(read.used, whole.used);
         assert_eq!(rest.len(), source.len() - whole.used.octets);
         dropped_by_keygen += read.used.dropped_groups;
+        dropped_elements += read.used.dropped_elements;
 
         let message = Message::from_counts(&set, &vec![1; set.counts_len()]).unwrap();
         let whole = whole.public_key.encrypt(&message, rest).unwrap();
@@ -100,7 +101,7 @@ fn a_reader_gives_what_a_slice_gives_and_loses_nothing() {
         assert_eq!((read.used, before - rest.len()), (whole.used, whole.used.octets));
         dropped_by_encryption += read.used.dropped_groups;
     }
-    assert!(dropped_by_keygen > 0 && dropped_by_encryption > 0);
+    assert!(dropped_by_keygen > 0 && dropped_elements > 0 && dropped_by_encryption > 0);
 }
 
 /// How many of these groups have a number of q or more.
@@ -111,25 +112,86 @@ fn too_large(set: &Parameters, groups: &[u8]) -> usize {
     groups.filter(|group| number(group) % (1 << bits) >= u64::from(set.q())).count()
 }
 
-/// The dropped groups are those among the octets, and the octets used are the fixed part and these.
+/// The coefficients of a packed element, unused bits ignored.
+fn unpacked(set: &Parameters, element: &[u8]) -> Vec<u32> {
+    let bit = |at: u32| u32::from(element[at as usize / 8] >> (at % 8) & 1);
+    (0..set.n()).map(|i| (0..set.b()).map(|j| bit(i * set.b() + j) << j).sum()).collect()
+}
+
+/// How many elements at the front are dropped until two are kept, and the words of those.
+fn drawn_secret_key(set: &Parameters, source: &[u8]) -> (usize, Vec<u32>) {
+    let elements: Vec<Vec<u32>> = source.chunks_exact(set.small_len()).map(|one| unpacked(set, one)).collect();
+    let kept: Vec<usize> = (0..elements.len()).filter(|&at| elements[at].last() != Some(&0)).take(2).collect();
+    (kept[1] - 1, [&elements[kept[0]][..], &elements[kept[1]]].concat())
+}
+
+/// What was dropped are the groups and elements among the octets, and the octets used are the fixed part and these.
 #[test]
-fn dropped_groups_are_counted() {
+fn what_was_dropped_is_counted() {
+    let mut most_elements = 0;
     for set in sets() {
         let mut source = vec![0; 1 << 16];
         Octets(11).read_exact(&mut source).unwrap();
         let keys = set.keygen(&source).unwrap();
-        let groups = &source[set.secret_key_len()..keys.used.octets];
+        let (elements, secret_key) = drawn_secret_key(&set, &source);
+        assert_eq!((keys.used.dropped_elements, keys.secret_key.to_words()), (elements, secret_key), "{set}");
+        let groups = &source[set.small_len() * (elements + 2)..keys.used.octets];
         assert_eq!(keys.used.dropped_groups, too_large(&set, groups), "{set}");
-        let dropped_octets = set.coefficient_len() * keys.used.dropped_groups;
+        let dropped_octets = set.coefficient_len() * keys.used.dropped_groups + set.small_len() * elements;
         assert_eq!(keys.used.octets, set.keygen_fixed_octets() + dropped_octets, "{set}");
+        most_elements = most_elements.max(elements);
 
         let message = Message::from_counts(&set, &vec![1; set.counts_len()]).unwrap();
         let used = keys.public_key.encrypt(&message, &source).unwrap().used;
         let small_elements = set.ciphertext_len() / set.element_len() * set.small_len();
         let groups = &source[..used.octets - small_elements];
-        assert_eq!(used.dropped_groups, too_large(&set, groups), "{set}");
+        assert_eq!((used.dropped_groups, used.dropped_elements), (too_large(&set, groups), 0), "{set}");
         let dropped_octets = set.coefficient_len() * used.dropped_groups;
         assert_eq!(used.octets, set.encryption_fixed_octets() + dropped_octets, "{set}");
+    }
+    assert!(most_elements > 1);
+}
+
+/// Each bit of an element alone: it is kept where the bit belongs to the top coefficient, and else dropped whole, as u_x
+/// and as u_y, from a slice and from a reader.
+#[test]
+fn an_element_is_dropped_where_its_top_coefficient_is_zero() {
+    for set in sets() {
+        let used = set.n() * set.b();
+        let full = vec![0xFF; set.small_len()];
+        let drawn = vec![0; set.keygen_fixed_octets() - set.secret_key_len()];
+        for bit in 0..8 * set.small_len() as u32 {
+            let mut element = vec![0; set.small_len()];
+            element[bit as usize / 8] = 1 << (bit % 8);
+            let is_kept = (used - set.b()..used).contains(&bit);
+            for front in [[&element[..], &full], [&full, &element]] {
+                let (kept, more) = if is_kept { (front, &[][..]) } else { ([&full[..]; 2], &full[..]) };
+                let source = [&front.concat(), more, &drawn, &[0x77; 5]].concat();
+                let keys = set.keygen(&source).unwrap();
+                let words = kept.map(|element| unpacked(&set, element)).concat();
+                assert_eq!(keys.secret_key.to_words(), words, "{set}: bit {bit}");
+                assert_eq!((keys.used.octets, keys.used.dropped_elements), (source.len() - 5, usize::from(!is_kept)));
+                let mut rest = &source[..];
+                assert_eq!(set.keygen_from(&mut rest).unwrap().used, keys.used);
+                assert_eq!(rest, [0x77; 5]);
+            }
+        }
+    }
+}
+
+/// One in ℓ, so 1 / (ℓ - 1) for each of the two that are kept. The limits are five standard deviations away.
+#[test]
+fn as_many_elements_are_dropped_as_l_makes_likely() {
+    let mut octets = Octets(13);
+    for (line, least, most) in [
+        ("2 73 2 1 1 2", 7369, 8631),
+        ("4 65521 2 1 1 4", 2369, 2964),
+        ("8 8388593 3 1 1 9", 963, 1323),
+        ("16 2147483647 8 1 1 32", 415, 652),
+    ] {
+        let set: Parameters = line.parse().unwrap();
+        let dropped: usize = (0..4000).map(|_| set.keygen_from(&mut octets).unwrap().used.dropped_elements).sum();
+        assert!((least..=most).contains(&dropped), "{set}: {dropped}");
     }
 }
 
@@ -168,7 +230,11 @@ fn one_octet_less_than_used_is_exhausted() {
 #[test]
 fn a_source_that_is_always_dropped_is_exhausted() {
     let set = Parameters::new(4, 1459, 2, 1, 1, 4).unwrap();
-    assert_eq!(set.keygen_from(std::io::repeat(0xFF)).unwrap_err(), Error::RandomExhausted);
+    // Groups, and elements.
+    for octet in [0xFF, 0] {
+        assert_eq!(set.keygen_from(std::io::repeat(octet)).unwrap_err(), Error::RandomExhausted);
+        assert_eq!(set.keygen(&[octet; 1 << 16]).unwrap_err(), Error::RandomExhausted);
+    }
 }
 
 #[test]
@@ -183,6 +249,36 @@ fn a_source_that_fails_says_so() {
     let error = set.keygen_from(Broken).unwrap_err();
     assert_eq!(error, Error::RandomSource(std::io::ErrorKind::ConnectionReset));
     assert_eq!(error.number(), None);
+}
+
+/// Secret keys whose words are all zero, all but one, or none but one: 14 where either top coefficient is zero, and no
+/// refusal by the conversions. The ciphertext is refused with 10 under any other key: its value is its constant.
+#[test]
+fn a_zero_top_coefficient_is_refused_where_the_key_is_used() {
+    for set in sets().filter(|set| set.counts_len() < set.n() as usize) {
+        let n = set.n() as usize;
+        let mut words = vec![0; set.ciphertext_len() / set.coefficient_len()];
+        *words.last_mut().unwrap() = 1;
+        let ciphertext = Ciphertext::from_words(&set, &words).unwrap();
+        let public_key = PublicKey::from_words(&set, &vec![0; set.public_key_len() / set.coefficient_len()]).unwrap();
+        let answers = |words: &[u32]| {
+            let secret_key = SecretKey::from_words(&set, words).unwrap();
+            assert_eq!(SecretKey::try_from((&set, secret_key.as_ref())).unwrap().to_words(), words);
+            (secret_key.is_zero_of(&public_key), secret_key.decrypt(&ciphertext).unwrap_err())
+        };
+        let refused = (Err(Error::TopCoefficient), Error::TopCoefficient);
+        for place in 0..2 * n {
+            let mut words = vec![0; 2 * n];
+            assert_eq!(answers(&words), refused, "{set}");
+            words[place] = set.l() - 1;
+            assert_eq!(answers(&words), refused, "{set}: place {place}");
+            words.fill(set.l() - 1);
+            words[place] = 0;
+            let is_top = place == n - 1 || place == 2 * n - 1;
+            let expected = if is_top { refused } else { (Ok(true), Error::Tail) };
+            assert_eq!(answers(&words), expected, "{set}: place {place}");
+        }
+    }
 }
 
 #[test]

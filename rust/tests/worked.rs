@@ -47,7 +47,7 @@ fn case_2_keys() {
     let keys = set().keygen(&KEY_RANDOM).unwrap();
     assert_eq!(keys.secret_key.as_ref(), SECRET_KEY);
     assert_eq!(keys.public_key.as_ref(), PUBLIC_KEY);
-    assert_eq!((keys.used.octets, keys.used.dropped_groups), (10, 0));
+    assert_eq!((keys.used.octets, keys.used.dropped_groups, keys.used.dropped_elements), (10, 0, 0));
     assert!(keys.secret_key.is_zero_of(&keys.public_key).unwrap());
     assert_eq!(keys.secret_key.to_words(), [1, 2, 0, 1]);
     assert_eq!(keys.public_key.to_words(), [5, 7, 100, 1, 1439, 1342]);
@@ -101,6 +101,18 @@ fn case_5_dropped_in_front_of_every_draw() {
     let encrypted = public_key().encrypt(&message(), &random).unwrap();
     assert_eq!(encrypted.ciphertext.as_ref(), CIPHERTEXT);
     assert_eq!((encrypted.used.octets, encrypted.used.dropped_groups), (30, 6));
+}
+
+/// Case 2 with elements that are dropped in front of u_x and of u_y, and one behind the last draw, which isn't counted.
+#[test]
+fn case_2_with_dropped_elements() {
+    let random = [&[0x00, 0x03, 0x09, 0xF1, 0x04], &KEY_RANDOM[2..], &[0x00]].concat();
+    for keys in [set().keygen(&random), set().keygen_from(&random[..])] {
+        let keys = keys.unwrap();
+        assert_eq!((keys.secret_key.as_ref(), keys.public_key.as_ref()), (&SECRET_KEY[..], &PUBLIC_KEY[..]));
+        assert_eq!((keys.used.octets, keys.used.dropped_groups, keys.used.dropped_elements), (13, 0, 3));
+    }
+    assert_eq!(set().keygen(&random[..12]).unwrap_err(), Error::RandomExhausted);
 }
 
 #[test]

@@ -18,12 +18,12 @@ use Rattle.definitions.specs.Parameters.{Parameters, degree, bound, smallBits, 
 use Rattle.definitions.specs.Ring.{Element, elementOf, InRing, scale}
 use Rattle.definitions.specs.Monomials.{constantTerm}
 use Rattle.definitions.specs.Octets.{unpacked}
-use Rattle.definitions.specs.Draws.{noiseDrawn}
+use Rattle.definitions.specs.Draws.{smallDrawn, noiseDrawn}
 use Rattle.definitions.specs.Calls.{polynomialFrom, smallOf, noiseOf}
 use Rattle.definitions.proofs.Parameters.{Accepted, range-least, range-most, key-degree-most, mask-degree-most}
 use Rattle.definitions.proofs.Congruence.{cong-of-eq}
 use Rattle.definitions.proofs.Packing.{length-unpacked}
-use Rattle.definitions.proofs.Small.{unpacked-small}
+use Rattle.definitions.proofs.Small.{unpacked-small, smallDrawn-small}
 use Rattle.definitions.proofs.Monomials.{count-fifteen}
 use Rattle.parameters.proofs.NoiseBound.{partial, power, partial-suc, partial-le, bound-partial, turn-start}
 use Rattle.ring.specs.Work.{part, Apart, scaledAdded}
@@ -54,7 +54,7 @@ module _ (p : Parameters) (a : Accepted p) where
 
   pub noise-scaled : (random : List ℕ) (k : ℕ) → k < p .n → p .l * elementOf (noiseDrawn p random) k < p .q
   unfolding noiseDrawn
-  noise-scaled random k l = small-scaled (le-refl (p .l)) (unpacked-small p a (take (smallLength p) random) .below k l)
+  noise-scaled random k l = small-scaled (le-refl (p .l)) (smallDrawn-small p a (take (smallLength p) random) .below k l)
 
   pub message-scaled : (message : List ℕ) (k : ℕ) → k < p .n → 1 * elementOf (unpacked (smallBits (p .l)) (p .n) message) k < p .q
   message-scaled message k l = small-scaled (omega (arith, range-least p (a .range))) (unpacked-small p a message .below k l)
@@ -83,7 +83,7 @@ module _ (p : Parameters) (c : ℕ) {a : Element} {old mid : List ℕ} (room : l
 
 -- ---- the noise
 pub length-noise : (p : Parameters) (random : List ℕ) → length (noiseDrawn p random) ≡ p .n
-unfolding noiseDrawn
+unfolding noiseDrawn smallDrawn
 length-noise p random = length-unpacked (smallBits (p .l)) (p .n) (take (smallLength p) random)
 
 pub noise-at : (p : Parameters) (noise : List ℕ) (m : ℕ) {small : ℕ} (k : ℕ) → small ≡ smallLength p → elementOf (noiseDrawn p (drop (m * small) noise)) k ≡ noiseOf p noise m k

@@ -14,7 +14,7 @@ use lib.ListN.{length, replicate}
 use Rattle.definitions.specs.Refusals.{refuse, untouched, firstRefusal}
 use Rattle.definitions.specs.Parameters.{Parameters, degree, ciphertextLength}
 use Rattle.definitions.specs.Ring.{modulo}
-use Rattle.definitions.specs.Calls.{decryptExact, DecryptExit, decryptedValue, decryptedElement, decryptedFrom, decryptAnswer, decryptLeaves, decryptExit}
+use Rattle.definitions.specs.Calls.{secretTests, decryptExact, DecryptExit, decryptedValue, decryptedElement, decryptedFrom, decryptAnswer, decryptLeaves, decryptExit}
 use Rattle.definitions.specs.Demand3.{AcceptedSet}
 use Rattle.definitions.proofs.Refusals.{Numbered, firstRefusal-append, firstRefusal-append-refused}
 use Rattle.definitions.proofs.Parameters.{Accepted, accepted-set, key-degree-most, mask-degree-most}
@@ -22,14 +22,14 @@ use Rattle.definitions.proofs.Calls.{decryptExact-told}
 use Rattle.definitions.proofs.Decryption.{tailClear-cong, messageOf-cong}
 use Rattle.ring.specs.Work.{part}
 use Rattle.definitions.proofs.Exits.{exit-length, exit-refused, exit-accepted}
-use Rattle.secrets.specs.Secrets.{ValueInputs, Valued, judgeTests}
+use Rattle.secrets.specs.Secrets.{ValueInputs, Valued}
 use Rattle.decryption.specs.Decrypted.{tailTests, MessageOf, Decrypted}
 
 module _ (p : Parameters) (secret ciphertext : List ℕ) {refusal : ℕ} {work : List ℕ} (v : Valued p (degree p) secret ciphertext refusal work) where
   pub decrypted-refused : (old : List ℕ) → (refusal ≡ 0 → ⊥) → Decrypted p secret ciphertext refusal old old
   decrypted-refused old h =
       record {
-        number = v .number ∙ sym (firstRefusal-append-refused (judgeTests p (degree p) secret ciphertext) _ (rw (← v .number) (pos-of-ne-zero h)));
+        number = v .number ∙ sym (firstRefusal-append-refused (secretTests p (degree p) secret ciphertext) _ (rw (← v .number) (pos-of-ne-zero h)));
         written = λ e. absurd (h e);
         kept = λ _. refl;
       }
@@ -40,8 +40,8 @@ module _ (p : Parameters) (secret ciphertext : List ℕ) {refusal : ℕ} {work :
     unfolding decryptedFrom decryptedElement decryptedValue modulo
     same k l = ap (λ (x : ℕ). x % p .l) (v .value none k l)
 
-    numbered : Numbered (judgeTests p (degree p) secret ciphertext)
-    numbered = (omega arith, (omega arith, tt))
+    numbered : Numbered (secretTests p (degree p) secret ciphertext)
+    numbered = (omega arith, (omega arith, (omega arith, tt)))
 
     pub decrypted-message : (old : List ℕ) {r : ℕ} {message : List ℕ} → MessageOf p (modulo (p .l) (part work (2 * p .n))) r old message
         → Decrypted p secret ciphertext r old message
@@ -49,7 +49,7 @@ module _ (p : Parameters) (secret ciphertext : List ℕ) {refusal : ℕ} {work :
         record {
           number = m .number
               ∙ ap (λ t. firstRefusal (refuse 10 (not t) ∷ [])) (tailClear-cong p same)
-              ∙ sym (firstRefusal-append (judgeTests p (degree p) secret ciphertext) _ numbered (sym (v .number) ∙ none));
+              ∙ sym (firstRefusal-append (secretTests p (degree p) secret ciphertext) _ numbered (sym (v .number) ∙ none));
           written = λ e. m .written e ∙ messageOf-cong p same;
           kept = m .kept;
         }

@@ -11,8 +11,7 @@ use mathlib.Core.List.{List, [], _∷_, _++_}
 use Rattle.definitions.specs.Refusals.{Test, refuse, firstRefusal}
 use Rattle.definitions.specs.Parameters.{Parameters, degree}
 use Rattle.definitions.specs.Ring.{Element}
-use Rattle.definitions.specs.Calls.{tailClear, messageOf, decryptedFrom}
-use Rattle.secrets.specs.Secrets.{judgeTests}
+use Rattle.definitions.specs.Calls.{secretTests, tailClear, messageOf, decryptedFrom}
 
 abbrev pub tailTests : Parameters → Element → List Test
 tailTests p m = refuse 10 (not (tailClear p m)) ∷ []
@@ -23,6 +22,6 @@ pub record MessageOf (p : Parameters) (m : Element) (refusal : ℕ) (old message
   pub kept : (refusal ≡ 0 → ⊥) → message ≡ old
 
 pub record Decrypted (p : Parameters) (secret ciphertext : List ℕ) (refusal : ℕ) (old message : List ℕ) : Type 0 where
-  pub number : refusal ≡ firstRefusal (judgeTests p (degree p) secret ciphertext ++ tailTests p (decryptedFrom p secret ciphertext))
+  pub number : refusal ≡ firstRefusal (secretTests p (degree p) secret ciphertext ++ tailTests p (decryptedFrom p secret ciphertext))
   pub written : refusal ≡ 0 → message ≡ messageOf p (decryptedFrom p secret ciphertext)
   pub kept : (refusal ≡ 0 → ⊥) → message ≡ old

@@ -1,7 +1,8 @@
 // Decryption (01, "Draws from lent random octets": opening): w is the ciphertext's value at the secret, and w modulo l the message.
 // It refuses a length that is not the exact one (6), a secret with an unused bit set (7), a coefficient of the ciphertext that is not below
-// q (8) and a number past the message that is not 0 (10); a refusal leaves the message as it was. The set is accepted. The work words are
-// zero after every ending past the length test. The contract is the definitions' Decrypts.
+// q (8), a secret element with a zero top coefficient (14) and a number past the message that is not 0 (10), in this order; a refusal leaves
+// the message as it was. The set is accepted. The work words are zero after every ending past the length test. The contract is the
+// definitions' Decrypts.
 ghost use mathlib.Core.Path.{_≡_};
 ghost use Prim.Native.Nat.{_+_, _*_, _^_, _%_, _≤_, _<_};
 ghost use lib.ListN.{length};

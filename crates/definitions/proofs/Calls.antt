@@ -11,15 +11,14 @@ use mathlib.Core.Path.{_≡_, refl, ap}
 use mathlib.Core.Bool.{Bool, true, false, cond, not}
 use mathlib.Core.List.{List}
 use borrow.Author.Tests.{eqb-true, ltb-false, not-false, eq-eqb}
-use lib.Dec.{ltb, lit<}
+use lib.Dec.{lit<}
 use lib.ListN.{length, drop}
 use Rattle.definitions.specs.Refusals.{Test, firstRefusal, untouched, accepted, answer}
-use Rattle.definitions.specs.Parameters.{Parameters, degree, setTests, monomialCount, smallLength, secretLength, publicLength, ciphertextLength, messageLength, workLength}
+use Rattle.definitions.specs.Parameters.{Parameters, degree, setTests, monomialCount, secretLength, publicLength, ciphertextLength, messageLength, workLength}
 use Rattle.definitions.specs.Ring.{modulo}
 use Rattle.definitions.specs.Monomials.{polynomialOf, value}
 use Rattle.definitions.specs.Octets.{paddingClear}
-use Rattle.definitions.specs.Draws.{secretDrawn}
-use Rattle.definitions.specs.Calls.{KeyPair, Encrypted, smallOf, secretX, secretY, polynomialFrom, octetsFrom, secretBitsClear, elementsFit, lengthTests, keysExact, encryptExact, addExact, decryptExact, keyDraws, keyPairOf, keygenAnswer, isZeroAt, isZeroAnswer, maskDraws, noiseOf, encryptedWith, maskUsed, encryptUsed, encryptAnswer, sumModulo, addAnswer}
+use Rattle.definitions.specs.Calls.{KeyPair, Encrypted, smallOf, secretX, secretY, polynomialFrom, octetsFrom, secretBitsClear, elementsFit, secretFull, lengthTests, keysExact, encryptExact, addExact, decryptExact, halfDraws, keyDraws, keyPairOf, keygenAnswer, isZeroAt, isZeroAnswer, maskDraws, noiseOf, encryptedWith, maskUsed, encryptUsed, encryptAnswer, sumModulo, addAnswer}
 use Rattle.definitions.specs.Demand3.{AcceptedSet, ZeroOf}
 use Rattle.definitions.proofs.Sums.{every-true, every-at}
 use Rattle.definitions.proofs.Tests.{both-true, neither-true}
@@ -87,6 +86,7 @@ pub record Zero (p : Parameters) (public secret : List ℕ) : Type 0 where
   pub public-exact : length public ≡ publicLength p
   pub padded : secretBitsClear p secret ≡ true
   pub fits : elementsFit p (monomialCount (p .dx)) public ≡ true
+  pub full : secretFull p secret ≡ true
   pub vanishes :
       (k : ℕ) → k < p .n →
       value (p .n) (p .dx) (polynomialFrom p public) (secretX p secret) (secretY p secret) k % p .q ≡ 0
@@ -99,12 +99,14 @@ zero-told p public secret e =
     let lengths = keysExact-told p (first .1) in
     let padding = firstRefusal-passed 7 _ _ (lit< tt) (told .1) in
     let inside = firstRefusal-passed 8 _ _ (lit< tt) (padding .1) in
+    let tops = firstRefusal-passed 14 _ _ (lit< tt) (inside .1) in
     record {
       set = first .0;
       secret-exact = lengths .0;
       public-exact = lengths .1;
       padded = not-false _ (padding .0);
       fits = not-false _ (inside .0);
+      full = not-false _ (tops .0);
       vanishes = λ k l. eqb-true _ _ (every-at (p .n) _ (told .2) l);
     }
 
@@ -117,6 +119,7 @@ zero-of p public secret z =
       eq-eqb (workLength p) (workLength p) refl,
       z .padded,
       z .fits,
+      z .full,
       every-true (p .n) (λ k l. eq-eqb _ 0 (z .vanishes k l)),
     )
     (answer-exact p (z .set) true _ true refl)
@@ -125,19 +128,20 @@ zero-of p public secret z =
 
 pub record KeygenTold (p : Parameters) (random : List ℕ) (keys : KeyPair) : Type 0 where
   pub set : AcceptedSet p
-  pub room : secretLength p ≤ length random
+  pub settled : halfDraws p random .enough ≡ true
   pub enough : keyDraws p random .enough ≡ true
-  pub made : keyPairOf p (secretDrawn p random) (secretDrawn p (drop (smallLength p) random)) (keyDraws p random) ≡ keys
+  pub made : keyPairOf p (halfDraws p random) (keyDraws p random) ≡ keys
 
 pub keygen-told : (p : Parameters) (random : List ℕ) (secretLen publicLen workLen : ℕ) (keys : KeyPair)
     → keygenAnswer p random secretLen publicLen workLen ≡ accepted keys → KeygenTold p random keys
 unfolding keygenAnswer
 keygen-told p random secretLen publicLen workLen keys given =
     let told = answer-accepted-only _ _ _ keys given in
-    let octets = neither-true (ltb (length random) (secretLength p)) (not (keyDraws p random .enough)) (firstRefusal-passed 9 _ _ (lit< tt) (told .1) .0) in
+    let octets =
+    neither-true (not (halfDraws p random .enough)) (not (keyDraws p random .enough)) (firstRefusal-passed 9 _ _ (lit< tt) (told .1) .0) in
     record {
       set = lengthTests-passed p _ (told .0) .0;
-      room = ltb-false _ _ (octets .0);
+      settled = not-false _ (octets .0);
       enough = not-false _ (octets .1);
       made = told .2;
     }

@@ -1,5 +1,6 @@
--- What follows by computing from the definitions alone: every row of the table of P cases (01, "Worked list"), that the witness's list is legal
--- and its ledger what it should be, that the weak set decrypts wrong, and what the keys and the ciphertext with dropped groups report.
+-- What follows by computing from the definitions alone: every row of the table of P cases (01, "Worked list") and of 02, Q-3's, that the witness's
+-- list is legal and its ledger what it should be, that the weak set decrypts wrong, and what keys and a ciphertext with dropped groups and elements
+-- report.
 -- Assumes nothing.
 use Prim.Native.Nat.{ℕ, _<_}
 use mathlib.Core.Path.{_≡_, refl}
@@ -9,11 +10,11 @@ use lib.Count.{leadingZeros}
 use Rattle.definitions.specs.Sequences.{sum, every, tabulate, joined}
 use Rattle.definitions.specs.Refusals.{firstRefusal, answer}
 use Rattle.definitions.specs.Parameters.{smallBits, termSum, bound, rangeFits, ringFits, degreeFits, modulusFits, messageFits, setTests, bitLength, qlen, monomialCount, smallLength, secretLength, elementsLength, publicLength, ciphertextLength, messageLength, workLength}
-use Rattle.definitions.specs.Ring.{modulo, add, scale, conv, one, power}
+use Rattle.definitions.specs.Ring.{modulo, add, scale, conv, one, power, fullDegree}
 use Rattle.definitions.specs.Monomials.{ofDegree, monomials, monomialAt, polynomialOf, coefficientsOf, constantTerm, sumOf, sameMonomial, productOf, evaluated, valueOver, value}
 use Rattle.definitions.specs.Octets.{numberOf, octetsOf, coefficientAt, decoded, encoded, coefficientsFit, bitAt, regrouped, unpacked, packed, paddingClear}
-use Rattle.definitions.specs.Draws.{grouped, draws, drawsBelow, secretDrawn, noiseDrawn}
-use Rattle.definitions.specs.Calls.{smallOf, secretX, secretY, decodedElements, octetsFrom, secretBitsClear, elementsFit, lengthTests, keysExact, encryptExact, addExact, decryptExact, keyDraws, keyConstant, keyPairOf, keygenAnswer, keygenExit, maskDraws, noiseOf, encryptedWith, maskUsed, encryptUsed, encryptAnswer, encryptExit, decryptedValue, decryptedElement, tailClear, messageOf, decryptedFrom, decryptAnswer, isZeroAt, isZeroAnswer, sumModulo, addAnswer}
+use Rattle.definitions.specs.Draws.{grouped, draws, drawsBelow, smallDrawn, secretDraws, noiseDrawn}
+use Rattle.definitions.specs.Calls.{smallOf, secretX, secretY, decodedElements, octetsFrom, secretBitsClear, elementsFit, secretFull, lengthTests, keysExact, encryptExact, addExact, decryptExact, halvesUsed, keyDraws, keyConstant, keyPairOf, keygenAnswer, keygenExit, maskDraws, noiseOf, encryptedWith, maskUsed, encryptUsed, encryptAnswer, encryptExit, decryptedValue, decryptedElement, tailClear, messageOf, decryptedFrom, decryptAnswer, decryptExit, isZeroAt, isZeroAnswer, isZeroExit, sumModulo, addAnswer}
 use borrow.Author.Tests.{eqb-true}
 use lib.Dec.{eqb, lit<, lit≤}
 use Rattle.definitions.specs.Ledger.{operandOf, ciphertextAnswer, callAnswer, givenAfter, givenBy, eventOf, events, entryAfter, ledgerFrom, ledger, FromList, FromListUnder, LegalCall, Legal}
@@ -21,6 +22,7 @@ use Rattle.definitions.proofs.Sums.{every-at}
 use Rattle.definitions.specs.WorkedCases.{Row, cases}
 use Rattle.definitions.specs.Witness.{Witnessed, Weak}
 use Rattle.definitions.specs.DroppedGroups.{drawStart, keygenFixed, encryptFixed, DroppedGroupsWitnessed}
+use Rattle.definitions.specs.DroppedElements.{degreeRows, DroppedElementsWitnessed}
 
 -- equal at every place, by computing each
 everywhere : (n m : ℕ) (f g : ℕ → ℕ → ℕ) → every n (λ i. every m (λ k. eqb (f i k) (g i k))) ≡ true
@@ -29,14 +31,15 @@ everywhere n m f g e i l k s =
     eqb-true (f i k) (g i k) (every-at m (λ k. eqb (f i k) (g i k)) (every-at n (λ i. every m (λ k. eqb (f i k) (g i k))) e l) s)
 
 computed : (map (λ (r : Row). r .given) cases ≡ map (λ (r : Row). r .expected) cases) × Witnessed × Weak × DroppedGroupsWitnessed
+    × (map (λ (r : Row). r .given) degreeRows ≡ map (λ (r : Row). r .expected) degreeRows) × DroppedElementsWitnessed
 unfolding
-    cases leadingZeros sum every tabulate joined firstRefusal answer smallBits termSum bound rangeFits ringFits degreeFits modulusFits messageFits setTests
+    cases degreeRows leadingZeros sum every tabulate joined firstRefusal answer smallBits termSum bound rangeFits ringFits degreeFits modulusFits messageFits setTests
     bitLength qlen monomialCount smallLength secretLength elementsLength publicLength ciphertextLength messageLength workLength modulo add scale conv
     one power ofDegree monomials monomialAt polynomialOf coefficientsOf constantTerm sumOf sameMonomial productOf evaluated valueOver value numberOf
-    octetsOf coefficientAt decoded encoded coefficientsFit bitAt regrouped unpacked packed paddingClear grouped draws drawsBelow secretDrawn noiseDrawn
-    smallOf secretX secretY decodedElements octetsFrom secretBitsClear elementsFit lengthTests keysExact encryptExact addExact decryptExact keyDraws keyConstant keyPairOf keygenAnswer keygenExit
+    octetsOf coefficientAt decoded encoded coefficientsFit bitAt regrouped unpacked packed paddingClear grouped draws drawsBelow smallDrawn secretDraws noiseDrawn
+    smallOf secretX secretY decodedElements octetsFrom secretBitsClear elementsFit secretFull lengthTests keysExact encryptExact addExact decryptExact halvesUsed keyDraws keyConstant keyPairOf keygenAnswer keygenExit
     maskDraws noiseOf encryptedWith maskUsed encryptUsed encryptAnswer encryptExit decryptedValue decryptedElement tailClear messageOf decryptedFrom
-    decryptAnswer isZeroAt isZeroAnswer sumModulo addAnswer operandOf ciphertextAnswer callAnswer givenAfter givenBy eventOf events entryAfter
+    decryptAnswer decryptExit isZeroAt isZeroAnswer isZeroExit fullDegree sumModulo addAnswer operandOf ciphertextAnswer callAnswer givenAfter givenBy eventOf events entryAfter
     ledgerFrom ledger FromList FromListUnder LegalCall Legal drawStart keygenFixed encryptFixed
 computed = (
   refl,
@@ -77,6 +80,20 @@ computed = (
     keygen-fixed = refl;
     encrypt-fixed = refl;
   },
+  refl,
+  record {
+    made = refl;
+    exhausted = refl;
+    zero-refused = refl;
+    decrypt-refused = refl;
+    tops = refl;
+    single = refl;
+    both = refl;
+    set = refl;
+    exact = refl;
+    zero-tops = refl;
+    unfinished = refl;
+  },
 )
 
 pub worked-cases : map (λ (r : Row). r .given) cases ≡ map (λ (r : Row). r .expected) cases
@@ -90,3 +107,9 @@ weak = computed .2
 
 pub dropped-groups-witnessed : DroppedGroupsWitnessed
 dropped-groups-witnessed = computed .3
+
+pub degree-rows : map (λ (r : Row). r .given) degreeRows ≡ map (λ (r : Row). r .expected) degreeRows
+degree-rows = computed .4
+
+pub dropped-elements-witnessed : DroppedElementsWitnessed
+dropped-elements-witnessed = computed .5

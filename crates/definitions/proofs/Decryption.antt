@@ -67,6 +67,7 @@ decrypts-to p public secret c places z w tail same messageLen workLen =
       eq-eqb (length c) (ciphertextLength p) (w .exact),
       z .padded,
       w .fits,
+      z .full,
       tailClear-cong p {a = decryptedFrom p secret c} {b = modulo (p .l) places} same,
       messageOf-cong p {a = decryptedFrom p secret c} {b = modulo (p .l) places} same,
       tailClear-true p places tail,

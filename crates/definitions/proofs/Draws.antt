@@ -7,11 +7,12 @@
 --   draws-first                 a single draw keeps the first candidate that passes, and drops those before it;  draws-none: without enough, all
 --   draws-append                groups after enough draws change nothing;  draws-taken: the groups taken give the same without them
 --   grouped-append              more octets: the same groups first;  draws-grouped-append: and the same draws, where there were enough
---   grouped-cons, grouped-short the groups one by one;  length-grouped: how many there are
+--   grouped-cons, grouped-short the groups one by one;  length-grouped: how many there are;  grouped-at: each
 --   grouped-drop                the groups of what is left once some were taken;  grouped-take: and those of what was taken
 --   draws-grouped-within        the octets taken are among those given;  draws-grouped-taken: they give the same alone
 --   draws-grouped-split         further draws go on after them
---   drawsBelow-..               the laws for draws below q
+--   drawsBelow-..               the laws for draws below q;  secretDraws-..: for the elements of a secret
+--   halvesUsed-there, halvesUsed-append   the octets of u_x and u_y are among those given, and the same with more
 --   keygenAnswer-append ..      an accepted call answers the same with more random octets
 -- Assumes nothing.
 use Prim.Native.Nat.{ℕ, zero, suc, _+_, _*_, _/_, _≤_, _<_}
@@ -27,17 +28,15 @@ use lib.Dec.{ltb}
 use lib.ListN.{length, getD, take, drop, length-append, length-drop, take-append-drop}
 use lib.Seq.{length-take-le, take-append-le, drop-append-le, drop-drop}
 use Rattle.definitions.specs.Sequences.{tabulate}
-use Rattle.definitions.specs.Draws.{Drawn, keep, discard, draws, grouped, groupNumber, drawsBelow, octetsUsed, secretDrawn, noiseDrawn}
-use Rattle.definitions.specs.Parameters.{Parameters, smallBits, qlen, smallLength, secretLength, degree}
-use Rattle.definitions.specs.Octets.{unpacked}
-use Rattle.definitions.specs.Calls.{KeyPair, Encrypted, keyDraws, keygenAnswer, maskDraws, noiseOf, encryptedWith, maskUsed, encryptUsed, octetsFrom, encryptAnswer}
-use Rattle.definitions.specs.Ring.{Element}
+use Rattle.definitions.specs.Draws.{Drawn, keep, discard, draws, grouped, groupNumber, drawsBelow, octetsUsed, smallDrawn, secretDraws, noiseDrawn}
+use Rattle.definitions.specs.Parameters.{Parameters, qlen, smallLength, degree}
+use Rattle.definitions.specs.Calls.{KeyPair, Encrypted, halfDraws, halvesUsed, keyDraws, keygenAnswer, maskDraws, noiseOf, encryptedWith, maskUsed, encryptUsed, octetsFrom, encryptAnswer}
+use Rattle.definitions.specs.Ring.{Element, elementOf, fullDegree}
 use Rattle.definitions.specs.Monomials.{Polynomial, sumOf}
 use Rattle.definitions.specs.Refusals.{accepted}
 use Rattle.definitions.proofs.Tests.{neither-true}
 use Rattle.definitions.proofs.Refusals.{firstRefusal-passed, answer-accepted-only}
-use Rattle.definitions.proofs.Parameters.{secretLength-halves}
-use Rattle.definitions.proofs.Sums.{length-tabulate, tabulate-cong}
+use Rattle.definitions.proofs.Sums.{length-tabulate, getD-tabulate, tabulate-cong}
 use Rattle.definitions.proofs.Octets.{AllBelow, octetsFrom-cong}
 
 -- ---- one candidate
@@ -217,6 +216,11 @@ module _ {A : Type 0} (len : ℕ) (read : List ℕ → A) where
   unfolding grouped
   length-grouped random = length-tabulate (length random / len) _
 
+  pub grouped-at : (random : List ℕ) (d : A) (i : ℕ) → i < length (grouped len read random)
+      → getD (grouped len read random) i d ≡ read (take len (drop (i * len) random))
+  unfolding grouped
+  grouped-at random d i l = getD-tabulate (length random / len) (λ j. read (take len (drop (j * len) random))) d (rw length-tabulate at l)
+
   -- the groups of the octets given come first
   pub grouped-append : (random more : List ℕ) → take (length random / len) (grouped len read (random ++ more)) ≡ grouped len read random
   unfolding grouped
@@ -338,22 +342,64 @@ module _ (q count : ℕ) (random : List ℕ) where
   unfolding drawsBelow
   drawsBelow-taken = draws-grouped-taken (qlen q) (groupNumber q) (λ x. ltb x q) count random
 
+-- ---- the elements of a secret
+
+module _ (p : Parameters) (count : ℕ) (random : List ℕ) where
+  abbrev full : List ℕ → Bool
+  full u = fullDegree (p .n) (elementOf u)
+
+  pub secretDraws-groups : secretDraws p count random .enough ≡ true → secretDraws p count random .groups ≡ count + secretDraws p count random .dropped
+  unfolding secretDraws
+  secretDraws-groups = draws-groups full count _
+
+  pub secretDraws-full : (k : ℕ) → k < length (secretDraws p count random .values) → full (getD (secretDraws p count random .values) k []) ≡ true
+  unfolding secretDraws
+  secretDraws-full k l = draws-values-pass full count (grouped (smallLength p) (smallDrawn p) random) [] k l
+
+  pub secretDraws-length : secretDraws p count random .enough ≡ true → length (secretDraws p count random .values) ≡ count
+  unfolding secretDraws
+  secretDraws-length = draws-values-length full count _
+
+  pub secretDraws-within : smallLength p * secretDraws p count random .groups ≤ length random
+  unfolding secretDraws
+  secretDraws-within = draws-grouped-within (smallLength p) (smallDrawn p) full count random
+
+  pub secretDraws-split : (more : ℕ)
+      → secretDraws p (count + more) random
+      ≡ thenDrawn (secretDraws p count random) (secretDraws p more (drop (smallLength p * secretDraws p count random .groups) random))
+  unfolding secretDraws
+  secretDraws-split = draws-grouped-split (smallLength p) (smallDrawn p) full count random
+
+  pub secretDraws-append : (more : List ℕ) → secretDraws p count random .enough ≡ true → secretDraws p count (random ++ more) ≡ secretDraws p count random
+  unfolding secretDraws
+  secretDraws-append = draws-grouped-append (smallLength p) (smallDrawn p) full count random
+
+  pub secretDraws-taken : 0 < smallLength p
+      → secretDraws p count (take (smallLength p * secretDraws p count random .groups) random) ≡ secretDraws p count random
+  unfolding secretDraws
+  secretDraws-taken = draws-grouped-taken (smallLength p) (smallDrawn p) full count random
+
 -- ---- the calls that draw
 
-module _ (p : Parameters) (random more : List ℕ) where
-  pub secretDrawn-append : (k : ℕ) → k + smallLength p ≤ length random
-      → secretDrawn p (drop k (random ++ more)) ≡ secretDrawn p (drop k random)
-  unfolding secretDrawn
-  secretDrawn-append k h = ap (unpacked (smallBits (p .l)) (p .n)) (take-append-drop-le (smallLength p) k random more h)
+pub halvesUsed-there : (p : Parameters) (random : List ℕ) → halvesUsed p random ≤ length random
+unfolding halvesUsed
+halvesUsed-there p random = secretDraws-within p 2 random
 
+module _ (p : Parameters) (random more : List ℕ) where
   pub noiseDrawn-append : (k : ℕ) → k + smallLength p ≤ length random
       → noiseDrawn p (drop k (random ++ more)) ≡ noiseDrawn p (drop k random)
   unfolding noiseDrawn
-  noiseDrawn-append k h = ap (unpacked (smallBits (p .l)) (p .n)) (take-append-drop-le (smallLength p) k random more h)
+  noiseDrawn-append k h = ap (smallDrawn p) (take-append-drop-le (smallLength p) k random more h)
 
-  pub keyDraws-append : secretLength p ≤ length random → keyDraws p random .enough ≡ true → keyDraws p (random ++ more) ≡ keyDraws p random
+  pub halvesUsed-append : halfDraws p random .enough ≡ true → halvesUsed p (random ++ more) ≡ halvesUsed p random
+  unfolding halvesUsed
+  halvesUsed-append e = rw (secretDraws-append p 2 random more e)
+
+  pub keyDraws-append : halfDraws p random .enough ≡ true → keyDraws p random .enough ≡ true → keyDraws p (random ++ more) ≡ keyDraws p random
   unfolding keyDraws
-  keyDraws-append h e = rw (drop-append-le (secretLength p) random more h) (drawsBelow-append (p .q) _ (drop (secretLength p) random) more e)
+  keyDraws-append h e =
+      rw (halvesUsed-append h, drop-append-le (halvesUsed p random) random more (halvesUsed-there p random))
+      (drawsBelow-append (p .q) _ (drop (halvesUsed p random) random) more e)
 
   pub maskDraws-append : maskDraws p random .enough ≡ true → maskDraws p (random ++ more) ≡ maskDraws p random
   unfolding maskDraws
@@ -366,17 +412,9 @@ module _ (p : Parameters) (random more : List ℕ) where
   keygenAnswer-append secretLen publicLen workLen k e =
       let t = answer-accepted-only _ _ _ k e in
       let passed = neither-true _ _ (firstRefusal-passed 9 _ [] (omega arith) (t .1) .0) in
-      let fits : secretLength p ≤ length random = ltb-false _ _ (passed .0) in
+      let settled : halfDraws p random .enough ≡ true = not-false _ (passed .0) in
       let enough : keyDraws p random .enough ≡ true = not-false _ (passed .1) in
-      let longer : secretLength p ≤ length (random ++ more) = omega (arith, length-append random more) in
-      let halves = secretLength-halves p in
-      rw (
-        secretDrawn-append 0 (omega arith),
-        secretDrawn-append (smallLength p) (omega arith),
-        keyDraws-append fits enough,
-        le-ltb (length (random ++ more)) (secretLength p) longer,
-      )
-      (rw (le-ltb (length random) (secretLength p) fits) at e)
+      rw (secretDraws-append p 2 random more settled, keyDraws-append settled enough) e
 
   pub noiseOf-append : (start i : ℕ) → start + suc i * smallLength p ≤ length random
       → noiseOf p (drop start (random ++ more)) i ≡ noiseOf p (drop start random) i

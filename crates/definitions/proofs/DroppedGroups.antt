@@ -5,7 +5,7 @@
 --   drawsBelow-next   a draw more is a single draw from the octets after those that were taken;  drawStart-taken: that is where it begins
 --   draws-add-up      a run is its single draws, one after the other
 --   draws-complete    where there is enough, a group that was taken was kept or dropped
---   keygen-reports, encrypt-reports   the octets used are the fixed part plus qlen times the groups dropped
+--   encrypt-reports   the octets used are the fixed part plus qlen times the groups dropped;  keygen-reports: DroppedElements.antt
 -- Assumes nothing.
 use Prim.Native.Nat.{ℕ, zero, suc, _+_, _*_, _/_, _<_}
 use native.Mathlib.Nat.{mul-zero, mul-one, mul-add}
@@ -18,21 +18,18 @@ use borrow.Author.Tests.{ltb-true, ltb-false}
 use lib.Dec.{ltb}
 use lib.ListN.{length, getD, drop}
 use Rattle.definitions.specs.Sequences.{sum, every, tabulate, joined}
-use Rattle.definitions.specs.Parameters.{Parameters, qlen, secretLength}
+use Rattle.definitions.specs.Parameters.{Parameters, qlen}
 use Rattle.definitions.specs.Draws.{Drawn, draws, grouped, groupNumber, drawsBelow, drawBelow, octetsUsed}
-use Rattle.definitions.specs.Calls.{KeyPair, Encrypted, keyCoefficients, keyDraws, keyPairOf, keygenAnswer, keygenExit, maskCoefficients, maskDraws, maskUsed, encryptUsed, encryptAnswer, encryptExit}
-use Rattle.definitions.specs.DroppedGroups.{groupNumberAt, DrawsSingly, DrawsUnfinished, drawStart, drawAt, DrawsAddUp, DrawsComplete, keygenFixed, encryptFixed, Reported, KeygenReports, EncryptReports}
-use Rattle.definitions.proofs.Sums.{length-tabulate, getD-tabulate}
+use Rattle.definitions.specs.Calls.{Encrypted, maskCoefficients, maskDraws, maskUsed, encryptUsed, encryptAnswer, encryptExit}
+use Rattle.definitions.specs.DroppedGroups.{groupNumberAt, DrawsSingly, DrawsUnfinished, drawStart, drawAt, DrawsAddUp, DrawsComplete, encryptFixed, Reported, EncryptReports}
 use Rattle.definitions.proofs.Refusals.{answer-success}
-use Rattle.definitions.proofs.Parameters.{secretLength-halves}
-use Rattle.definitions.proofs.Draws.{draws-first, draws-none, length-grouped, drawsBelow-within, thenDrawn, drawsBelow-values, drawsBelow-length, drawsBelow-split, drawsBelow-groups}
-use Rattle.definitions.proofs.Calls.{KeygenTold, keygen-told, EncryptTold, encrypt-told}
+use Rattle.definitions.proofs.Draws.{draws-first, draws-none, length-grouped, grouped-at, drawsBelow-within, thenDrawn, drawsBelow-values, drawsBelow-length, drawsBelow-split, drawsBelow-groups}
+use Rattle.definitions.proofs.Calls.{EncryptTold, encrypt-told}
 use Rattle.definitions.proofs.RoundTrips.{joined-snoc}
 
 group-at : (q : ℕ) (random : List ℕ) (i : ℕ) → i < length (grouped (qlen q) (groupNumber q) random)
     → getD (grouped (qlen q) (groupNumber q) random) i 0 ≡ groupNumberAt q random i
-unfolding grouped
-group-at q random i l = getD-tabulate (length random / qlen q) (groupNumberAt q random) 0 (rw length-tabulate at l)
+group-at q random i l = grouped-at (qlen q) (groupNumber q) random 0 i l
 
 pub draws-singly : DrawsSingly
 unfolding drawsBelow
@@ -94,7 +91,7 @@ module _ (q : ℕ) (random : List ℕ) where
       ∙ mul-add (qlen q) (run count .groups) _
       ∙ ap (λ (s : ℕ). s + octetsUsed q (drawAt q random count)) (octets-summed count)
 
-  dropped-summed : (count : ℕ) → run count .dropped ≡ sum count (λ i. drawAt q random i .dropped)
+  pub dropped-summed : (count : ℕ) → run count .dropped ≡ sum count (λ i. drawAt q random i .dropped)
   unfolding drawsBelow draws sum
   dropped-summed zero = refl
   dropped-summed (suc count) =
@@ -124,19 +121,7 @@ draws-complete q count random enough =
       octets = ap (λ (g : ℕ). qlen q * g) (drawsBelow-groups q count random enough) ∙ mul-add (qlen q) count _;
     }
 
--- ---- the calls that report it
-
-keys-reported : (p : Parameters) (random : List ℕ) (keys : KeyPair) → KeygenTold p random keys
-    → Reported (p .q) (keygenFixed p) (keys .used) (keys .droppedGroups) (keyCoefficients p) (drop (secretLength p) random)
-unfolding keygenFixed keyPairOf keyDraws
-keys-reported p random keys told =
-    let left : List ℕ = drop (secretLength p) random in
-    let used : secretLength p + octetsUsed (p .q) (keyDraws p random) ≡ keys .used = ap (λ (k : KeyPair). k .used) (told .made) in
-    let dropped : keyDraws p random .dropped ≡ keys .droppedGroups = ap (λ (k : KeyPair). k .droppedGroups) (told .made) in
-    record {
-      octets = sym used ∙ rw (← dropped) (omega (arith, secretLength-halves p, draws-complete (p .q) (keyCoefficients p) left (told .enough) .octets));
-      added-up = sym dropped ∙ dropped-summed (p .q) left (keyCoefficients p);
-    }
+-- ---- encryption reports it
 
 encryption-reported : (p : Parameters) (public message random : List ℕ) (e : Encrypted) → EncryptTold p public message random e
     → Reported (p .q) (encryptFixed p) (e .used) (e .droppedGroups) (maskCoefficients p) random
@@ -146,12 +131,6 @@ encryption-reported p public message random e told =
       octets = sym (told .used) ∙ rw (← told .dropped) (omega (arith, draws-complete (p .q) (maskCoefficients p) random (told .enough) .octets));
       added-up = sym (told .dropped) ∙ dropped-summed (p .q) random (maskCoefficients p);
     }
-
-pub keygen-reports : KeygenReports
-unfolding keygenExit keygenAnswer
-keygen-reports p random secret public used droppedGroups work success =
-    let made = answer-success _ _ _ success in
-    rw made (keys-reported p random _ (keygen-told p random (length secret) (length public) (length work) _ made))
 
 pub encrypt-reports : EncryptReports
 unfolding encryptExit encryptAnswer

@@ -23,7 +23,7 @@ use Rattle.definitions.proofs.Ring.{AtMost}
 use Rattle.definitions.proofs.Noise.{noise-le}
 use Rattle.definitions.proofs.Parameters.{Accepted, modulus-positive}
 use Rattle.definitions.proofs.Elements.{InRings, octetsFrom-length, octetsFrom-fits, polynomialFrom-octetsFrom}
-use Rattle.definitions.proofs.Small.{smallOf-tail, unpacked-small, smallOf-below}
+use Rattle.definitions.proofs.Small.{smallOf-tail, smallDrawn-small, smallOf-below}
 use Rattle.definitions.proofs.Calls.{zero-told, EncryptTold, AddTold}
 use Rattle.definitions.proofs.Represents.{Represents, CongAt, represents-congruent, represents-weaken, represents-decrypts, represents-add, represents-encrypted}
 use Rattle.definitions.proofs.Decryption.{decrypts-to}
@@ -67,7 +67,7 @@ module _ (p : Parameters) (a : Accepted p) where
 
   noise-small : (random : List ℕ) (i : ℕ) → InRing (p .l) (p .n) (noiseOf p random i)
   unfolding noiseOf noiseDrawn
-  noise-small random i = unpacked-small p a (take (smallLength p) (drop (i * smallLength p) random)) .below
+  noise-small random i = smallDrawn-small p a (take (smallLength p) (drop (i * smallLength p) random)) .below
 
   secret-small-x : (secret : List ℕ) → InRing (p .l) (p .n) (secretX p secret)
   unfolding secretX

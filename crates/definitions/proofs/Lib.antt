@@ -26,8 +26,10 @@ pub mod Represents
 pub mod Decryption
 pub mod Zeros
 pub mod KeyTerms
+pub mod SecretDraws
 pub mod MadeKeys
 pub mod DroppedGroups
+pub mod DroppedElements
 pub mod OctetsUsed
 pub mod Kept
 pub mod Ledger

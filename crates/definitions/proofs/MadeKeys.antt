@@ -6,20 +6,21 @@ use mathlib.Core.Bool.{true}
 use mathlib.Core.List.{List, _++_}
 use native.Mathlib.Nat.{mod-lt, div-add-mod, add-mod-mod, mul-mod-right}
 use native.Mathlib.Omega.{arith}
-use lib.ListN.{length, getD, take, drop}
+use lib.Dec.{lit<}
+use lib.ListN.{length, getD}
 use Rattle.definitions.specs.Sequences.{tabulate}
-use Rattle.definitions.specs.Parameters.{Parameters, qlen, smallLength}
-use Rattle.definitions.specs.Ring.{Element, elementOf}
+use Rattle.definitions.specs.Parameters.{Parameters, qlen}
+use Rattle.definitions.specs.Ring.{Element, elementOf, fullDegree}
 use Rattle.definitions.specs.Octets.{encoded}
-use Rattle.definitions.specs.Draws.{secretDrawn}
-use Rattle.definitions.specs.Calls.{KeyPair, keyCoefficients, keyDraws, keyConstant, keyPairOf}
+use Rattle.definitions.specs.Calls.{KeyPair, keyCoefficients, halfDraws, drawnX, drawnY, keyDraws, keyConstant, keyPairOf}
 use Rattle.definitions.specs.Demand3.{AcceptedSet, ZeroOf, InSmallRing, secretOf, MadeKeys}
 use Rattle.definitions.proofs.Sums.{length-tabulate, getD-tabulate}
 use Rattle.definitions.proofs.Parameters.{Accepted, accepted-set, modulus-positive}
 use Rattle.definitions.proofs.Octets.{AllBelow}
-use Rattle.definitions.proofs.Draws.{drawsBelow-values, drawsBelow-length}
-use Rattle.definitions.proofs.Small.{unpacked-small}
+use Rattle.definitions.proofs.Draws.{drawsBelow-values, drawsBelow-length, secretDraws-length, secretDraws-full}
+use Rattle.definitions.proofs.Small.{smallDrawn-small}
 use Rattle.definitions.proofs.KeyTerms.{key-length, key-fits, key-value}
+use Rattle.definitions.proofs.SecretDraws.{halves-told}
 use Rattle.definitions.proofs.Calls.{keygen-told}
 use Rattle.definitions.proofs.Zeros.{vanishes-zero}
 
@@ -29,6 +30,7 @@ negated-sum q v pos =
     rw (add-mod-mod, whole, mul-mod-right)
 
 module _ (p : Parameters) (set : AcceptedSet p) (ux uy others : List ℕ) (hx : InSmallRing p ux) (hy : InSmallRing p uy)
+    (degrees : (fullDegree (p .n) (elementOf ux) ≡ true) × (fullDegree (p .n) (elementOf uy) ≡ true))
     (sized : length others ≡ keyCoefficients p) (below : AllBelow (p .q) others) where
   abbrev constant : Element
   constant = keyConstant p others (elementOf ux) (elementOf uy)
@@ -46,7 +48,7 @@ module _ (p : Parameters) (set : AcceptedSet p) (ux uy others : List ℕ) (hx : 
       let a : Accepted p = accepted-set p set in
       let long : length (tabulate (p .n) constant) ≡ p .n = length-tabulate (p .n) constant in
       vanishes-zero p set _ ux uy hx hy (key-length p others _ sized long)
-      (key-fits p others _ sized long a below constant-below)
+      (key-fits p others _ sized long a below constant-below) degrees
       (λ k l. rw (key-value p others _ sized long a below constant-below (elementOf ux) (elementOf uy) k l, constant-at k l)
       (negated-sum (p .q) _ (modulus-positive p a)))
 
@@ -58,15 +60,24 @@ pub keyDraws-below : (p : Parameters) (random : List ℕ) → AllBelow (p .q) (k
 unfolding keyDraws
 keyDraws-below p random = drawsBelow-values (p .q) (keyCoefficients p) _
 
-drawn-small : (p : Parameters) → Accepted p → (random : List ℕ) → InSmallRing p (secretDrawn p random)
-unfolding secretDrawn
-drawn-small p a random = unpacked-small p a (take (smallLength p) random)
+-- u_x and u_y are small, and have degree n - 1
+pub halves-small : (p : Parameters) → Accepted p → (random : List ℕ) → halfDraws p random .enough ≡ true
+    → InSmallRing p (drawnX (halfDraws p random)) × InSmallRing p (drawnY (halfDraws p random))
+halves-small p a random settled =
+    let halves = halves-told p random settled in
+    (rw (halves .x-drawn) (smallDrawn-small p a _), rw (halves .y-drawn) (smallDrawn-small p a _))
+
+halves-full : (p : Parameters) (random : List ℕ) → halfDraws p random .enough ≡ true
+    → (fullDegree (p .n) (elementOf (drawnX (halfDraws p random))) ≡ true) × (fullDegree (p .n) (elementOf (drawnY (halfDraws p random))) ≡ true)
+halves-full p random settled =
+    let two = secretDraws-length p 2 random settled in
+    (secretDraws-full p 2 random 0 (rw two (lit< tt)), secretDraws-full p 2 random 1 (rw two (lit< tt)))
 
 pub made-keys : MadeKeys
 unfolding keyPairOf
 made-keys p random secretLen publicLen workLen keys given =
     let told = keygen-told p random secretLen publicLen workLen keys given in
-    let a : Accepted p = accepted-set p (told .set) in
+    let small = halves-small p (accepted-set p (told .set)) random (told .settled) in
     subst (λ (k : KeyPair). ZeroOf p (k .public) (k .secret)) (told .made)
-    (key-zero p (told .set) (secretDrawn p random) (secretDrawn p (drop (smallLength p) random)) (keyDraws p random .values)
-    (drawn-small p a random) (drawn-small p a (drop (smallLength p) random)) (drawn-length p random (told .enough)) (keyDraws-below p random))
+    (key-zero p (told .set) (drawnX (halfDraws p random)) (drawnY (halfDraws p random)) (keyDraws p random .values) (small .0) (small .1)
+    (halves-full p random (told .settled)) (drawn-length p random (told .enough)) (keyDraws-below p random))

@@ -5,8 +5,7 @@
 --   answers-alike      a call that its front octets already satisfy leaves the same whatever follows them
 --   keygen-needs, encrypt-needs   the octets used suffice, and fewer are 9
 -- Assumes nothing.
-use Prim.Native.Nat.{ℕ, _+_, _-_, _≤_, _<_}
-use native.Mathlib.Decide.{decLt}
+use Prim.Native.Nat.{ℕ, _+_, _-_, _*_, _≤_, _<_}
 use native.Mathlib.Nat.{le-trans, min-le-left}
 use native.Mathlib.Omega.{arith}
 use mathlib.Core.Path.{_≡_, refl, sym, ap, _∙_}
@@ -17,15 +16,15 @@ use lib.Dec.{ltb}
 use lib.ListN.{length, take, drop, length-take, length-drop, take-append-drop}
 use lib.Seq.{length-take-le, take-add, drop-at}
 use Rattle.definitions.specs.Refusals.{firstRefusal, Answer, accepted, number, refuse}
-use Rattle.definitions.specs.Parameters.{Parameters, secretLength}
+use Rattle.definitions.specs.Parameters.{Parameters, smallLength}
 use Rattle.definitions.specs.Draws.{Drawn, drawsBelow, octetsUsed}
-use Rattle.definitions.specs.Calls.{KeyPair, Encrypted, keyCoefficients, keyDraws, keyPairOf, keygenTests, keygenAnswer, KeygenExit, keygenLeaves, keygenExit, maskCoefficients, maskDraws, maskUsed, encryptUsed, encryptTests, encryptAnswer, EncryptExit, encryptLeaves, encryptExit}
+use Rattle.definitions.specs.Calls.{KeyPair, Encrypted, keyCoefficients, halfDraws, halvesUsed, keyDraws, keyPairOf, keygenTests, keygenAnswer, KeygenExit, keygenLeaves, keygenExit, maskCoefficients, maskDraws, maskUsed, encryptUsed, encryptTests, encryptAnswer, EncryptExit, encryptLeaves, encryptExit}
 use Rattle.definitions.specs.Demand3.{AcceptedSet}
 use Rattle.definitions.specs.OctetsUsed.{KeygenNeeds, EncryptNeeds}
 use Rattle.definitions.proofs.Tests.{either-first, either-second}
 use Rattle.definitions.proofs.Refusals.{firstRefusal-applies, firstRefusal-last, firstRefusal-passes, answer-accepted, answer-refused, answer-accepted-only, answer-success}
-use Rattle.definitions.proofs.Parameters.{accepted-set, modulus-positive, modulus-word, qlen-least}
-use Rattle.definitions.proofs.Draws.{drawsBelow-append, drawsBelow-within, drawsBelow-taken, keygenAnswer-append, maskDraws-append, encryptUsed-append, encryptAnswer-append}
+use Rattle.definitions.proofs.Parameters.{accepted-set, modulus-positive, modulus-word, qlen-least, smallLength-least}
+use Rattle.definitions.proofs.Draws.{drawsBelow-append, drawsBelow-within, drawsBelow-taken, secretDraws-append, secretDraws-taken, halvesUsed-there, halvesUsed-append, keygenAnswer-append, maskDraws-append, encryptUsed-append, encryptAnswer-append}
 use Rattle.definitions.proofs.Calls.{keygen-told, EncryptTold, encrypt-told}
 
 length-front : (m : ℕ) (random : List ℕ) → length (take m random) ≤ m
@@ -57,63 +56,80 @@ module _ {A : Type 0} (respond : List ℕ → Answer A)
 -- ---- key generation
 
 abbrev keyUsed : Parameters → List ℕ → ℕ
-keyUsed p random = secretLength p + octetsUsed (p .q) (keyDraws p random)
+keyUsed p random = halvesUsed p random + octetsUsed (p .q) (keyDraws p random)
 
-module _ (p : Parameters) (random : List ℕ) (room : secretLength p ≤ length random) where
+-- the test of the random octets
+abbrev keysExhausted : Parameters → List ℕ → Bool
+keysExhausted p octets = not (halfDraws p octets .enough) || not (keyDraws p octets .enough)
+
+pub keyUsed-there : (p : Parameters) (random : List ℕ) → keyUsed p random ≤ length random
+unfolding keyDraws
+keyUsed-there p random =
+    omega (arith, halvesUsed-there p random, length-drop (halvesUsed p random) random, drawsBelow-within (p .q) (keyCoefficients p) (drop (halvesUsed p random) random))
+
+module _ (p : Parameters) (random : List ℕ) where
   abbrev left : List ℕ
-  left = drop (secretLength p) random
+  left = drop (halvesUsed p random) random
 
   -- the octets after the secret's, where only so many of them are given
-  left-taken : (more : ℕ) → drop (secretLength p) (take (secretLength p + more) random) ≡ take more left
+  left-taken : (more : ℕ) → drop (halvesUsed p random) (take (halvesUsed p random + more) random) ≡ take more left
   left-taken more =
-      ap (drop (secretLength p)) (take-add (secretLength p) more random)
-      ∙ drop-at (take (secretLength p) random) _ (secretLength p) (length-take-le (secretLength p) random room)
+      ap (drop (halvesUsed p random)) (take-add (halvesUsed p random) more random)
+      ∙ drop-at (take (halvesUsed p random) random) _ (halvesUsed p random) (length-take-le (halvesUsed p random) random (halvesUsed-there p random))
 
-  keyUsed-there : keyUsed p random ≤ length random
-  unfolding keyDraws
-  keyUsed-there = omega (arith, length-drop (secretLength p) random, drawsBelow-within (p .q) (keyCoefficients p) left)
+  halfDraws-taken : AcceptedSet p → (more : ℕ) → halfDraws p random .enough ≡ true → halfDraws p (take (halvesUsed p random + more) random) ≡ halfDraws p random
+  unfolding halvesUsed
+  halfDraws-taken set more settled =
+      let alone : halfDraws p (take (halvesUsed p random) random) ≡ halfDraws p random
+      = secretDraws-taken p 2 random (smallLength-least p (accepted-set p set)) in
+      ap (halfDraws p) (take-add (halvesUsed p random) more random)
+      ∙ secretDraws-append p 2 (take (halvesUsed p random) random) _ (rw alone settled) ∙ alone
 
-  keyDraws-taken : AcceptedSet p → keyDraws p (take (keyUsed p random) random) ≡ keyDraws p random
-  unfolding keyDraws
-  keyDraws-taken set =
+  keyDraws-taken : AcceptedSet p → halfDraws p random .enough ≡ true → keyDraws p (take (keyUsed p random) random) ≡ keyDraws p random
+  unfolding keyDraws halvesUsed
+  keyDraws-taken set settled =
       let a = accepted-set p set in
-      ap (drawsBelow (p .q) (keyCoefficients p)) (left-taken (octetsUsed (p .q) (keyDraws p random)))
+      let more : ℕ = octetsUsed (p .q) (keyDraws p random) in
+      let used : halvesUsed p (take (halvesUsed p random + more) random) ≡ halvesUsed p random
+      = ap (λ (d : Drawn (List ℕ)). smallLength p * d .groups) (halfDraws-taken set more settled) in
+      ap (λ (start : ℕ). drawsBelow (p .q) (keyCoefficients p) (drop start (take (halvesUsed p random + more) random))) used
+      ∙ ap (drawsBelow (p .q) (keyCoefficients p)) (left-taken more)
       ∙ drawsBelow-taken (p .q) (keyCoefficients p) left (qlen-least (p .q) (modulus-positive p a) (modulus-word p a))
 
-  keyDraws-fewer : (m : ℕ) → m < keyUsed p random → (ltb (length (take m random)) (secretLength p) || not (keyDraws p (take m random) .enough)) ≡ true
+  keyDraws-fewer : (m : ℕ) → m < keyUsed p random → keysExhausted p (take m random) ≡ true
   unfolding keyDraws
-  keyDraws-fewer m l =
-      elim (decLt m (secretLength p)) [
-        | yes short ↦
-            let shorter : length (take m random) < secretLength p = omega (arith, length-front m random) in
-            either-first _ _ (lt-ltb _ _ shorter)
-        | no long ↦
-            let more : ℕ = m - secretLength p in
-            let split : m ≡ secretLength p + more = omega arith in
-            let ended : drawsBelow (p .q) (keyCoefficients p) (drop (secretLength p) (take m random)) .enough ≡ false =
-            rw (split, left-taken more) (drawsBelow-fewer (p .q) (keyCoefficients p) left more (omega arith)) in
-            either-second (ltb (length (take m random)) (secretLength p)) _ (ap not ended)
-      ]
+  keyDraws-fewer m l = go (halfDraws p (take m random) .enough) refl
+    where
+      go : (t : Bool) → halfDraws p (take m random) .enough ≡ t → keysExhausted p (take m random) ≡ true
+      go false e = either-first _ _ (ap not e)
+      go true e =
+          let used : halvesUsed p random ≡ halvesUsed p (take m random)
+          = ap (halvesUsed p) (sym (take-append-drop m random)) ∙ halvesUsed-append p (take m random) (drop m random) e in
+          let more : ℕ = m - halvesUsed p random in
+          let split : m ≡ halvesUsed p random + more = omega (arith, used, halvesUsed-there p (take m random), length-front m random) in
+          let front : drop (halvesUsed p (take m random)) (take m random) ≡ take more left
+          = rw (← used) (ap (λ (k : ℕ). drop (halvesUsed p random) (take k random)) split ∙ left-taken more) in
+          let ended : drawsBelow (p .q) (keyCoefficients p) (drop (halvesUsed p (take m random)) (take m random)) .enough ≡ false
+          = rw front (drawsBelow-fewer (p .q) (keyCoefficients p) left more (omega arith)) in
+          either-second (not (halfDraws p (take m random) .enough)) _ (ap not ended)
 
 pub keygen-needs : KeygenNeeds
-unfolding keygenExit keygenAnswer keyPairOf
-keygen-needs p random secret public used droppedGroups work success =
+unfolding keygenExit keygenAnswer keyPairOf halvesUsed
+keygen-needs p random secret public used droppedGroups droppedElements work success =
     let made = answer-success _ _ _ success in
     let told = keygen-told p random (length secret) (length public) (length work) _ made in
     let tests = answer-accepted-only _ _ _ _ made in
     let needed : ℕ = keyUsed p random in
-    let front : List ℕ = take needed random in
     let respond : List ℕ → Answer KeyPair = λ octets. keygenAnswer p octets (length secret) (length public) (length work) in
-    let long : secretLength p ≤ length front = omega (arith, length-take-le needed random (keyUsed-there p random (told .room))) in
-    let fits : firstRefusal (keygenTests p front) ≡ 0
-    = firstRefusal-last 9 _ (rw (le-ltb (length front) (secretLength p) long, keyDraws-taken p random (told .room) (told .set), told .enough)) in
-    let leaves : Answer KeyPair → KeygenExit = λ a. keygenLeaves a secret public used droppedGroups work in
+    let fits : firstRefusal (keygenTests p (take needed random)) ≡ 0
+    = firstRefusal-last 9 _ (rw (halfDraws-taken p random (told .set) _ (told .settled), keyDraws-taken p random (told .set) (told .settled), told .settled, told .enough)) in
+    let leaves : Answer KeyPair → KeygenExit = λ a. keygenLeaves a secret public used droppedGroups droppedElements work in
     rw made
     (record {
-      there = keyUsed-there p random (told .room);
+      there = keyUsed-there p random;
       suffice = λ others. ap leaves (answers-alike respond (λ octets more. keygenAnswer-append p octets more _ _ _) needed random others _
           (answer-accepted _ _ _ (tests .0) fits));
-      fewer = λ m l. ap number (answer-refused _ _ _ 8 (tests .0) (firstRefusal-applies 9 _ [] (keyDraws-fewer p random (told .room) m l)));
+      fewer = λ m l. ap number (answer-refused _ _ _ 8 (tests .0) (firstRefusal-applies 9 _ [] (keyDraws-fewer p random m l)));
     })
 
 -- ---- encryption

@@ -5,7 +5,8 @@
 --   Passed            the five tests that an accepted set passes;  Accepted: what they say, a field for each comparison
 --   bitLength-..      q has just that many bits;  qlen-..: and just that many octets
 --   ..-degree-most    dX and dr are at most 2;  modulus-least: q is at least 36
---   elementsLength-count  the coefficients of so many elements;  smallLength-room: the octets of a small element have room for its bits
+--   elementsLength-count  the coefficients of so many elements;  smallLength-room: the octets of a small element have room for its bits;
+--                    smallLength-least: there is one at least
 -- Assumes nothing.
 use Prim.Native.Nat.{ℕ, suc, _+_, _-_, _*_, _/_, _%_, _^_, _≤_, _<_}
 use mathlib.Core.Path.{_≡_, refl, sym, subst}
@@ -238,6 +239,9 @@ module _ (p : Parameters) (a : Accepted p) where
 pub smallLength-room : (p : Parameters) → p .n * smallBits (p .l) ≤ 8 * smallLength p
 unfolding smallLength
 smallLength-room p = omega arith
+
+pub smallLength-least : (p : Parameters) → Accepted p → 0 < smallLength p
+smallLength-least p a = omega (arith, smallLength-room p, mul-le-mul (a .ring-least) (smallBits-least p (a .range)))
 
 pub secretLength-halves : (p : Parameters) → secretLength p ≡ smallLength p + smallLength p
 unfolding secretLength

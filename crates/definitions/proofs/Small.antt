@@ -1,6 +1,6 @@
 -- Why small elements and secrets are their octets: b bits hold just the numbers below ℓ, and the octets of an element have room for n of them.
 --
---   smallOf-below, smallOf-tail   an element read from octets is in R_ℓ, and zero past the octets' unused bits
+--   smallOf-below, smallOf-tail   an element read from octets is in R_ℓ, and zero past the octets' unused bits;  smallDrawn-small: a drawn one
 --   unpacked-element              a packed element reads back
 --   secretOf-..                   a secret put together from two elements: its length, its padding, and the two read back
 -- Assumes nothing.
@@ -14,6 +14,7 @@ use lib.Seq.{take-at, drop-at}
 use Rattle.definitions.specs.Parameters.{Parameters, smallBits, smallLength, secretLength}
 use Rattle.definitions.specs.Ring.{elementOf, InRing}
 use Rattle.definitions.specs.Octets.{unpacked, packed, paddingClear}
+use Rattle.definitions.specs.Draws.{smallDrawn}
 use Rattle.definitions.specs.Calls.{smallOf, secretX, secretY, secretBitsClear}
 use Rattle.definitions.specs.Demand3.{secretOf, InSmallRing}
 use Rattle.definitions.proofs.Packing.{length-unpacked, length-packed, unpacked-below, unpacked-packed, paddingClear-packed, unpacked-tail}
@@ -36,6 +37,10 @@ module _ (p : Parameters) (a : Accepted p) where
               unpacked-below (smallBits (p .l)) (p .n) octets k (rw (length-unpacked (smallBits (p .l)) (p .n) octets) l),
             );
       }
+
+  pub smallDrawn-small : (octets : List ℕ) → InSmallRing p (smallDrawn p octets)
+  unfolding smallDrawn
+  smallDrawn-small octets = unpacked-small octets
 
   pub smallOf-below : (octets : List ℕ) → InRing (p .l) (p .n) (smallOf p octets)
   unfolding smallOf

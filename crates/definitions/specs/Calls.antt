@@ -1,5 +1,5 @@
--- 01, "Draws from lent random octets" (keys, sealing, opening, adding, zero test) with "Refusal table", and 02, Q-1: the answer of every call
--- of 01.
+-- 01, "Draws from lent random octets" (keys, sealing, opening, adding, zero test) with "Refusal table", and 02, Q-1 and Q-3: the answer of every
+-- call of 01.
 --
 --   01's form is a ciphertext; its r is the mask here and its e the noise.
 --
@@ -11,9 +11,13 @@
 --   decodedElements  the coefficients of so many elements from octets
 --   secretBitsClear  whether both halves of a secret have zero in their unused bits
 --   elementsFit      whether each of so many elements' coefficients is below q
+--   secretFull       whether both elements of a secret have degree n - 1
+--   secretTests      the tests after the length test that zero test and decryption share: of a secret, and a polynomial whose value there is taken
 --   lengthTests      the tests up to the length test
 --   keysExact        whether both keys and the work words have their exact lengths;  encryptExact, addExact, decryptExact: the buffers of each
---   KeyPair          what key generation gives: both keys, the octets used and the groups dropped;  Encrypted: what encryption gives
+--   KeyPair          what key generation gives: both keys, the octets used, the groups and the elements dropped;  Encrypted: what encryption gives
+--   halfDraws        the draws of u_x, then u_y, the halves of a secret;  halvesUsed: the octets that they used, dropped elements included;
+--                    drawnX, drawnY: u_x and u_y of them
 --   keyCoefficients  how many coefficients are drawn for a key;  keyDraws: these draws;  keyConstant: the key's constant;  keyPairOf: all of it
 --   maskCoefficients how many are drawn for r;  maskDraws: these draws;  maskUsed: the octets that they used, dropped groups included;  encryptUsed:
 --                    these and the octets of e
@@ -32,14 +36,14 @@ use Prim.Native.Nat.{ℕ, _+_, _-_, _*_, _%_}
 use mathlib.Core.Bool.{Bool, cond, _&&_, _||_, not}
 use mathlib.Core.List.{List, [], _∷_, _++_}
 use lib.Dec.{eqb, ltb}
-use lib.ListN.{length, take, drop}
+use lib.ListN.{length, take, drop, getD}
 use Rattle.definitions.specs.Sequences.{every, tabulate}
 use Rattle.definitions.specs.Refusals.{Test, refuse, Answer, answer, number, output, workAtExit}
 use Rattle.definitions.specs.Parameters.{Parameters, degree, smallBits, setTests, qlen, monomialCount, smallLength, secretLength, publicLength, ciphertextLength, messageLength, workLength}
-use Rattle.definitions.specs.Ring.{Element, elementOf, modulo, scale}
+use Rattle.definitions.specs.Ring.{Element, elementOf, modulo, scale, fullDegree}
 use Rattle.definitions.specs.Monomials.{Polynomial, polynomialOf, coefficientsOf, constantTerm, sumOf, productOf, valueOver, value}
 use Rattle.definitions.specs.Octets.{coefficientAt, decoded, encoded, coefficientsFit, unpacked, packed, paddingClear}
-use Rattle.definitions.specs.Draws.{Drawn, drawsBelow, octetsUsed, secretDrawn, noiseDrawn}
+use Rattle.definitions.specs.Draws.{Drawn, drawsBelow, octetsUsed, secretDraws, elementsUsed, noiseDrawn}
 
 -- ---- octets to ring elements and back
 
@@ -72,6 +76,17 @@ secretBitsClear p secret =
 unfoldable pub elementsFit : Parameters → ℕ → List ℕ → Bool
 elementsFit p elements octets = coefficientsFit (p .q) (decodedElements p elements octets)
 
+unfoldable pub secretFull : Parameters → List ℕ → Bool
+secretFull p secret = fullDegree (p .n) (secretX p secret) && fullDegree (p .n) (secretY p secret)
+
+-- of a polynomial of degree d in the octets, at the secret
+abbrev pub secretTests : Parameters → ℕ → List ℕ → List ℕ → List Test
+secretTests p d secret octets =
+    refuse 7 (not (secretBitsClear p secret))
+    ∷ refuse 8 (not (elementsFit p (monomialCount d) octets))
+    ∷ refuse 14 (not (secretFull p secret))
+    ∷ []
+
 -- the tests up to the length test, which applies where a length is not the exact one
 unfoldable pub lengthTests : Parameters → Bool → List Test
 lengthTests p exact = setTests p ++ (refuse 6 (not exact) ∷ [])
@@ -101,37 +116,54 @@ pub record KeyPair : Type 0 where
   pub public : List ℕ
   pub used : ℕ
   pub droppedGroups : ℕ
+  pub droppedElements : ℕ
+
+-- u_x, then u_y: each is settled before the next octets are taken
+abbrev pub halfDraws : Parameters → List ℕ → Drawn (List ℕ)
+halfDraws p random = secretDraws p 2 random
+
+abbrev pub drawnX : Drawn (List ℕ) → List ℕ
+drawnX halves = getD (halves .values) 0 []
+
+abbrev pub drawnY : Drawn (List ℕ) → List ℕ
+drawnY halves = getD (halves .values) 1 []
+
+unfoldable pub halvesUsed : Parameters → List ℕ → ℕ
+halvesUsed p random = elementsUsed p (halfDraws p random)
 
 -- how many coefficients are drawn after u_x and u_y: those of all elements but the constant
 abbrev pub keyCoefficients : Parameters → ℕ
 keyCoefficients p = (monomialCount (p .dx) - 1) * p .n
 
 unfoldable pub keyDraws : Parameters → List ℕ → Drawn ℕ
-keyDraws p random = drawsBelow (p .q) (keyCoefficients p) (drop (secretLength p) random)
+keyDraws p random = drawsBelow (p .q) (keyCoefficients p) (drop (halvesUsed p random) random)
 
 -- minus the sum of a_ij × u_x^i × u_y^j over the others
 unfoldable pub keyConstant : Parameters → List ℕ → Element → Element → Element
 keyConstant p others ux uy k =
     (p .q - valueOver (monomialCount (p .dx) - 1) (p .n) (p .dx) (polynomialOf (p .n) others) ux uy k % p .q) % p .q
 
-unfoldable pub keyPairOf : Parameters → List ℕ → List ℕ → Drawn ℕ → KeyPair
-keyPairOf p ux uy others =
+unfoldable pub keyPairOf : Parameters → Drawn (List ℕ) → Drawn ℕ → KeyPair
+keyPairOf p halves others =
     record {
-      secret = packed (smallBits (p .l)) (smallLength p) ux ++ packed (smallBits (p .l)) (smallLength p) uy;
-      public = encoded (qlen (p .q)) (others .values ++ tabulate (p .n) (keyConstant p (others .values) (elementOf ux) (elementOf uy)));
-      used = secretLength p + octetsUsed (p .q) others;
+      secret = packed (smallBits (p .l)) (smallLength p) (drawnX halves) ++ packed (smallBits (p .l)) (smallLength p) (drawnY halves);
+      public =
+          encoded (qlen (p .q))
+          (others .values ++ tabulate (p .n) (keyConstant p (others .values) (elementOf (drawnX halves)) (elementOf (drawnY halves))));
+      used = elementsUsed p halves + octetsUsed (p .q) others;
       droppedGroups = others .dropped;
+      droppedElements = halves .dropped;
     }
 
 abbrev pub keygenTests : Parameters → List ℕ → List Test
-keygenTests p random = refuse 9 (ltb (length random) (secretLength p) || not (keyDraws p random .enough)) ∷ []
+keygenTests p random = refuse 9 (not (halfDraws p random .enough) || not (keyDraws p random .enough)) ∷ []
 
 unfoldable pub keygenAnswer : Parameters → List ℕ → ℕ → ℕ → ℕ → Answer KeyPair
 keygenAnswer p random secretLen publicLen workLen =
     answer
     (lengthTests p (keysExact p secretLen publicLen workLen))
     (keygenTests p random)
-    (keyPairOf p (secretDrawn p random) (secretDrawn p (drop (smallLength p) random)) (keyDraws p random))
+    (keyPairOf p (halfDraws p random) (keyDraws p random))
 
 -- ---- zero test
 
@@ -139,8 +171,7 @@ unfoldable pub isZeroAt : Parameters → Polynomial → Element → Element → 
 isZeroAt p key ux uy = every (p .n) (λ k. eqb (modulo (p .q) (value (p .n) (p .dx) key ux uy) k) 0)
 
 abbrev pub isZeroTests : Parameters → List ℕ → List ℕ → List Test
-isZeroTests p secret public =
-    refuse 7 (not (secretBitsClear p secret)) ∷ refuse 8 (not (elementsFit p (monomialCount (p .dx)) public)) ∷ []
+isZeroTests p secret public = secretTests p (p .dx) secret public
 
 unfoldable pub isZeroAnswer : Parameters → List ℕ → List ℕ → ℕ → Answer Bool
 isZeroAnswer p secret public workLen =
@@ -238,10 +269,7 @@ decryptedFrom p secret ciphertext =
 
 abbrev pub decryptTests : Parameters → List ℕ → List ℕ → List Test
 decryptTests p secret ciphertext =
-    refuse 7 (not (secretBitsClear p secret))
-    ∷ refuse 8 (not (elementsFit p (monomialCount (degree p)) ciphertext))
-    ∷ refuse 10 (not (tailClear p (decryptedFrom p secret ciphertext)))
-    ∷ []
+    secretTests p (degree p) secret ciphertext ++ (refuse 10 (not (tailClear p (decryptedFrom p secret ciphertext))) ∷ [])
 
 unfoldable pub decryptAnswer : Parameters → List ℕ → List ℕ → ℕ → ℕ → Answer (List ℕ)
 decryptAnswer p secret ciphertext messageLen workLen =
@@ -258,22 +286,24 @@ pub record KeygenExit : Type 0 where
   pub public : List ℕ
   pub used : ℕ
   pub droppedGroups : ℕ
+  pub droppedElements : ℕ
   pub work : List ℕ
 
-abbrev pub keygenLeaves : Answer KeyPair → List ℕ → List ℕ → ℕ → ℕ → List ℕ → KeygenExit
-keygenLeaves a secret public used droppedGroups work =
+abbrev pub keygenLeaves : Answer KeyPair → List ℕ → List ℕ → ℕ → ℕ → ℕ → List ℕ → KeygenExit
+keygenLeaves a secret public used droppedGroups droppedElements work =
     record {
       refusal = number a;
       secret = output (λ k. k .secret) a secret;
       public = output (λ k. k .public) a public;
       used = output (λ k. k .used) a used;
       droppedGroups = output (λ k. k .droppedGroups) a droppedGroups;
+      droppedElements = output (λ k. k .droppedElements) a droppedElements;
       work = workAtExit a work;
     }
 
-unfoldable pub keygenExit : Parameters → List ℕ → List ℕ → List ℕ → ℕ → ℕ → List ℕ → KeygenExit
-keygenExit p random secret public used droppedGroups work =
-    keygenLeaves (keygenAnswer p random (length secret) (length public) (length work)) secret public used droppedGroups work
+unfoldable pub keygenExit : Parameters → List ℕ → List ℕ → List ℕ → ℕ → ℕ → ℕ → List ℕ → KeygenExit
+keygenExit p random secret public used droppedGroups droppedElements work =
+    keygenLeaves (keygenAnswer p random (length secret) (length public) (length work)) secret public used droppedGroups droppedElements work
 
 pub record IsZeroExit : Type 0 where
   pub refusal : ℕ

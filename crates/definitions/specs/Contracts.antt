@@ -51,11 +51,19 @@ Measures p secret public message ciphertext work r =
     (lengthsExit p
     (record { secret = before secret; public = before public; message = before message; ciphertext = before ciphertext; work = before work }))
 
-abbrev pub Makes : Parameters → Buffer → Buffer → Buffer → Buffer → Cell → Cell → ℕ → Type 0
-Makes p random secret public work used droppedGroups r =
+abbrev pub Makes : Parameters → Buffer → Buffer → Buffer → Buffer → Cell → Cell → Cell → ℕ → Type 0
+Makes p random secret public work used droppedGroups droppedElements r =
     _≡_ {A = KeygenExit}
-    (record { refusal = r; secret = after secret; public = after public; used = after used; droppedGroups = after droppedGroups; work = after work })
-    (keygenExit p (before random) (before secret) (before public) (before used) (before droppedGroups) (before work))
+    (record {
+      refusal = r;
+      secret = after secret;
+      public = after public;
+      used = after used;
+      droppedGroups = after droppedGroups;
+      droppedElements = after droppedElements;
+      work = after work;
+    })
+    (keygenExit p (before random) (before secret) (before public) (before used) (before droppedGroups) (before droppedElements) (before work))
 
 abbrev pub TellsZero : Parameters → Buffer → Buffer → Buffer → Cell → ℕ → Type 0
 TellsZero p secret public work zero r =

@@ -3,7 +3,7 @@
 --   fromOctetsAnswer so many ring elements from octets; toOctetsAnswer: back
 --   chunk            the i-th of parts of one length that stand end to end
 --   packedFromAnswer so many packed small elements from octets, each with its own unused bits: 1 for a small element, 2 for a secret key;
---                    packedToAnswer: back
+--                    packedToAnswer: back. Top coefficients are not judged: 02, Q-3 refuses them at opening and at the zero test
 --   ..Tests          the tests after the length test of each
 --   conversionLeaves the number and the output at exit, from an answer and what the output held before
 --   ..Exit           the same from what the call was lent: fromOctetsExit, toOctetsExit, packedFromExit, packedToExit

@@ -1,12 +1,14 @@
 -- 01, "The book of sums", last three paragraphs, and demand 3: what is promised of a whole list of calls. proofs/ has the theorems.
 --
 --   AcceptedSet      a set that no test of 1 to 5 refuses
---   ZeroOf           a secret that is a zero of the key (01: a fitting secret): its zero test answers yes
+--   ZeroOf           a secret that is a zero of the key (01: a fitting secret): its zero test answers yes, so both elements have degree n - 1
+--                    (02, Q-3: every demand means this kind of secret)
 --   InSmallRing      a list of the n coefficients of an element of R_ℓ;  secretOf: the octets of a secret, from its two elements
 --   WellFormed       octets of a ciphertext's exact length with every coefficient below q (01: well formed)
 --   DecryptsTo       decryption answers 6 where a length is not the exact one, otherwise 0 and the message of the numbers modulo ℓ
 --   MadeKeys         every made key has its secret as a zero
---   SmallZeros       a pair of small elements is a zero of a key just where the key's value there is 0 (01: a small secret)
+--   SmallZeros       every pair of small elements is a zero of a key just where both have degree n - 1 and the key's value there is 0 (01: a
+--                    small secret)
 --   ZeroPastMessage  an entry's places past mlen bits hold 0
 --   EntryHolds       what holds of a ciphertext and its entry
 --   LedgerHolds      one claim about a list of calls: a ciphertext for each entry, and EntryHolds of each
@@ -22,7 +24,7 @@ use lib.Dec.{eqb}
 use lib.ListN.{length, getD}
 use Rattle.definitions.specs.Refusals.{firstRefusal, Answer, untouched, accepted}
 use Rattle.definitions.specs.Parameters.{Parameters, degree, smallBits, bound, setTests, monomialCount, smallLength, publicLength, ciphertextLength, messageLength, workLength}
-use Rattle.definitions.specs.Ring.{Element, elementOf, modulo, ListInRing}
+use Rattle.definitions.specs.Ring.{Element, elementOf, modulo, fullDegree, ListInRing}
 use Rattle.definitions.specs.Monomials.{Polynomial, productOf, value}
 use Rattle.definitions.specs.Octets.{packed}
 use Rattle.definitions.specs.Calls.{KeyPair, secretX, secretY, polynomialFrom, elementsFit, keygenAnswer, isZeroAnswer, messageOf, decryptAnswer}
@@ -62,12 +64,15 @@ MadeKeys =
     keygenAnswer p random secretLen publicLen workLen ≡ accepted keys →
     ZeroOf p (keys .public) (keys .secret)
 
--- a small secret (01): its octets are those of u_x and u_y, and it is a zero of the key just where the key's value there is 0 in R_q
+-- a small secret (01): its octets are those of u_x and u_y, and it is a zero of the key just where u_x and u_y have degree n - 1 (02, Q-3) and the
+-- key's value there is 0 in R_q
 pub record SmallZero (p : Parameters) (public ux uy : List ℕ) : Type 0 where
   pub read-x : secretX p (secretOf p ux uy) ≡ elementOf ux
   pub read-y : secretY p (secretOf p ux uy) ≡ elementOf uy
   pub tested :
-      ((k : ℕ) → k < p .n → value (p .n) (p .dx) (polynomialFrom p public) (elementOf ux) (elementOf uy) k % p .q ≡ 0)
+      ((fullDegree (p .n) (elementOf ux) ≡ true)
+      × (fullDegree (p .n) (elementOf uy) ≡ true)
+      × ((k : ℕ) → k < p .n → value (p .n) (p .dx) (polynomialFrom p public) (elementOf ux) (elementOf uy) k % p .q ≡ 0))
       ↔ ZeroOf p public (secretOf p ux uy)
 
 abbrev pub SmallZeros : Type 0

@@ -1,15 +1,18 @@
--- 01, "Draws from lent random octets", with 02, Q-1: what is drawn, how many octets that takes, and how many groups are dropped.
+-- 01, "Draws from lent random octets", with 02, Q-1 and Q-3: what is drawn, how many octets that takes, and how many groups and elements are
+-- dropped.
 --
 --   grouped          each complete group of so many octets, read by a rule
 --   Drawn            the values kept, the groups taken (dropped ones with them, also those of a draw left unfinished), how many of these were
 --                    dropped, and whether they were enough;  keep, discard: one group more in front, that is kept or dropped
---   draws            so many draws from candidates of any type, here groups read as numbers: one that does not pass a test is dropped and the
---                    next is taken; where the candidates end first they were not enough
+--   draws            so many draws from candidates of any type, here groups read as numbers or as elements: one that does not pass a test is
+--                    dropped and the next is taken; where the candidates end first they were not enough
 --   groupNumber      a group as a number, reduced modulo 2 to the bit length of q
 --   drawsBelow       so many draws below q, from groups of qlen octets
 --   drawBelow        a single one;  octetsUsed: the octets that draws below q used
---   secretDrawn      a secret element drawn from the front of octets; its unused top bits are ignored
---   noiseDrawn       a noise element, in the same way
+--   smallDrawn       a small element of drawn octets; their unused top bits are ignored
+--   secretDraws      so many draws of an element of a secret, from groups of ⌈n × b / 8⌉ octets: one that has not degree n - 1 is dropped whole;
+--                    elementsUsed: the octets that they used
+--   noiseDrawn       a noise element, from the front of octets: none is dropped (02, Q-3 speaks of u_x and u_y; case 3 has noise with a zero top)
 -- Assumes nothing.
 use Prim.Native.Nat.{ℕ, zero, suc, _*_, _/_, _%_, _^_}
 use mathlib.Core.Bool.{Bool, true, false, cond}
@@ -18,6 +21,7 @@ use lib.Dec.{ltb}
 use lib.ListN.{length, take, drop}
 use Rattle.definitions.specs.Sequences.{tabulate}
 use Rattle.definitions.specs.Parameters.{Parameters, smallBits, smallLength, bitLength, qlen}
+use Rattle.definitions.specs.Ring.{elementOf, fullDegree}
 use Rattle.definitions.specs.Octets.{numberOf, unpacked}
 
 unfoldable pub grouped : {A : Type 0} → ℕ → (List ℕ → A) → List ℕ → List A
@@ -52,8 +56,14 @@ drawBelow q random = drawsBelow q 1 random
 abbrev pub octetsUsed : ℕ → Drawn ℕ → ℕ
 octetsUsed q drawn = qlen q * drawn .groups
 
-unfoldable pub secretDrawn : Parameters → List ℕ → List ℕ
-secretDrawn p random = unpacked (smallBits (p .l)) (p .n) (take (smallLength p) random)
+unfoldable pub smallDrawn : Parameters → List ℕ → List ℕ
+smallDrawn p octets = unpacked (smallBits (p .l)) (p .n) octets
+
+unfoldable pub secretDraws : Parameters → ℕ → List ℕ → Drawn (List ℕ)
+secretDraws p count random = draws (λ u. fullDegree (p .n) (elementOf u)) count (grouped (smallLength p) (smallDrawn p) random)
+
+abbrev pub elementsUsed : Parameters → Drawn (List ℕ) → ℕ
+elementsUsed p drawn = smallLength p * drawn .groups
 
 unfoldable pub noiseDrawn : Parameters → List ℕ → List ℕ
-noiseDrawn p random = unpacked (smallBits (p .l)) (p .n) (take (smallLength p) random)
+noiseDrawn p random = smallDrawn p (take (smallLength p) random)

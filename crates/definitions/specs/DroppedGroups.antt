@@ -17,7 +17,7 @@
 --   encryptFixed     the same of encryption: n draws for each element of r, and the elements of e
 --   Reported         the octets used are a fixed part plus qlen times the groups dropped; and the groups dropped are the sum over so many
 --                    single draws
---   KeygenReports    so it is with what key generation reports, wherever it does not refuse;  EncryptReports: and with what encryption reports
+--   EncryptReports   so it is with what encryption reports, wherever it does not refuse;  key generation: DroppedElements.antt
 --   DroppedGroupsWitnessed   what a caller has of keys and of a ciphertext with dropped groups, and of a refusal with 9; where the single draws for
 --                    its r begin, where the last ends, and what each drops; that they have enough; single draws at 36, the least q of an
 --                    accepted set, at a power of two and at 16 bits, and one without enough; a run without enough; and the fixed parts: no
@@ -29,9 +29,9 @@ use mathlib.Core.Bool.{true, false}
 use mathlib.Core.List.{List, [], _∷_, _++_}
 use lib.ListN.{length, getD, drop, take, replicate}
 use Rattle.definitions.specs.Sequences.{sum, every, tabulate, joined}
-use Rattle.definitions.specs.Parameters.{Parameters, degree, qlen, monomialCount, smallLength, secretLength}
+use Rattle.definitions.specs.Parameters.{Parameters, degree, qlen, monomialCount, smallLength}
 use Rattle.definitions.specs.Draws.{Drawn, groupNumber, drawsBelow, drawBelow, octetsUsed}
-use Rattle.definitions.specs.Calls.{keyCoefficients, maskCoefficients, KeygenExit, keygenExit, EncryptExit, encryptExit}
+use Rattle.definitions.specs.Calls.{maskCoefficients, KeygenExit, keygenExit, EncryptExit, encryptExit}
 use Rattle.definitions.specs.WorkedCases.{setA, keyRandom, secretA, keyA, twoDropped, ciphertextA}
 
 abbrev pub groupNumberAt : ℕ → List ℕ → ℕ → ℕ
@@ -90,12 +90,6 @@ pub record Reported (q fixed used droppedGroups count : ℕ) (random : List ℕ)
   pub added-up : droppedGroups ≡ sum count (λ i. drawAt q random i .dropped)
 
 -- what the caller has at exit, where the number is 0
-abbrev pub KeygenReports : Type 0
-KeygenReports =
-    (p : Parameters) (random secret public : List ℕ) (used droppedGroups : ℕ) (work : List ℕ) →
-    (let exit = keygenExit p random secret public used droppedGroups work in
-    exit .refusal ≡ 0 → Reported (p .q) (keygenFixed p) (exit .used) (exit .droppedGroups) (keyCoefficients p) (drop (secretLength p) random))
-
 abbrev pub EncryptReports : Type 0
 EncryptReports =
     (p : Parameters) (public message random ciphertext : List ℕ) (used droppedGroups : ℕ) (work : List ℕ) →
@@ -112,17 +106,19 @@ ciphertextRandom = take 21 twoDropped ++ (0xF9 ∷ [])
 
 -- what the caller's buffers and numbers held
 abbrev pub keysLeft : List ℕ → KeygenExit
-keysLeft random = keygenExit setA random (replicate 2 255) (replicate 12 255) 98 99 (replicate 16 97)
+keysLeft random = keygenExit setA random (replicate 2 255) (replicate 12 255) 98 99 96 (replicate 16 97)
 
 abbrev pub ciphertextLeft : List ℕ → EncryptExit
 ciphertextLeft random = encryptExit setA keyA (0x0E ∷ []) random (replicate 24 255) 98 99 (replicate 16 97)
 
 pub record DroppedGroupsWitnessed : Type 0 where
-  pub made : keysLeft keysRandom ≡ record { refusal = 0; secret = secretA; public = keyA; used = 12; droppedGroups = 1; work = replicate 16 0 }
+  pub made :
+      keysLeft keysRandom
+      ≡ record { refusal = 0; secret = secretA; public = keyA; used = 12; droppedGroups = 1; droppedElements = 0; work = replicate 16 0 }
   pub encrypted : ciphertextLeft ciphertextRandom ≡ record { refusal = 0; ciphertext = ciphertextA; used = 22; droppedGroups = 2; work = replicate 16 0 }
   pub keygen-refused :
       keysLeft (take 11 keysRandom)
-      ≡ record { refusal = 9; secret = replicate 2 255; public = replicate 12 255; used = 98; droppedGroups = 99; work = replicate 16 0 }
+      ≡ record { refusal = 9; secret = replicate 2 255; public = replicate 12 255; used = 98; droppedGroups = 99; droppedElements = 96; work = replicate 16 0 }
   pub encrypt-refused :
       ciphertextLeft (take 21 ciphertextRandom)
       ≡ record { refusal = 9; ciphertext = replicate 24 255; used = 98; droppedGroups = 99; work = replicate 16 0 }

@@ -17,6 +17,7 @@ pub mod Demand3
 pub mod Corollaries
 pub mod WorkedCases
 pub mod DroppedGroups
+pub mod DroppedElements
 pub mod OctetsUsed
 pub mod MultiplyAddHolds
 pub mod Witness

@@ -5,7 +5,7 @@
 --                    fewer of them the number is 9
 --   KeygenNeeds      so it is with the octets that key generation reports, wherever it does not refuse;  EncryptNeeds: and encryption
 --
--- The hypotheses are those of KeygenReports and EncryptReports (DroppedGroups.antt), with their witness.
+-- The hypotheses are those of KeygenReports (DroppedElements.antt) and EncryptReports (DroppedGroups.antt), with their witnesses.
 -- Assumes nothing.
 use Prim.Native.Nat.{ℕ, _≤_, _<_}
 use mathlib.Core.Path.{_≡_}
@@ -21,8 +21,8 @@ pub record Needed {E : Type 0} (refusal : E → ℕ) (exit : List ℕ → E) (ra
 
 abbrev pub KeygenNeeds : Type 0
 KeygenNeeds =
-    (p : Parameters) (random secret public : List ℕ) (used droppedGroups : ℕ) (work : List ℕ) →
-    (let exit : List ℕ → KeygenExit = λ octets. keygenExit p octets secret public used droppedGroups work in
+    (p : Parameters) (random secret public : List ℕ) (used droppedGroups droppedElements : ℕ) (work : List ℕ) →
+    (let exit : List ℕ → KeygenExit = λ octets. keygenExit p octets secret public used droppedGroups droppedElements work in
     exit random .refusal ≡ 0 → Needed (λ e. e .refusal) exit random (exit random .used))
 
 abbrev pub EncryptNeeds : Type 0

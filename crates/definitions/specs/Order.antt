@@ -1,13 +1,15 @@
--- 01, "Refusal table": the order in which every call tests, once for all of them.
+-- 01, "Refusal table", with 02: the order in which every call tests, once for all of them. It is not that of the numbers: 11 comes first, and 14
+-- after 8 and before 9 (02, Q-3).
 --
---   upToLength       the numbers in their order up to the length test: 11 first where it occurs, then from the lowest on
---   afterLength      those after it; a refusal from one of these finds the work words zero
+--   upToLength       the numbers in their order up to the length test: 11 first where it occurs, then 1 to 6; a refusal with one of
+--                    these leaves the work words untouched
+--   afterLength      those after it; after a refusal with one of these the work words are zero
 --   standsIn         whether some numbers stand in a list, in its order, each at most once
 --   numberOfTest     the number of a test
 --   InOrder          an answer is that of given tests, which stand in this order; the length test is the place that 01's rule for work words names
 --   RefusalOrder     every answer is that of its own tests, and these stand so
 --
--- A later request places its numbers here; a call that tests in another order is then refused.
+-- A later request places its numbers here; a call that tests in another order then fails the check.
 -- Assumes nothing.
 use Prim.Native.Nat.{ℕ, _*_}
 use mathlib.Core.Path.{_≡_}
@@ -26,7 +28,7 @@ abbrev pub upToLength : List ℕ
 upToLength = 11 ∷ 1 ∷ 2 ∷ 3 ∷ 4 ∷ 5 ∷ 6 ∷ []
 
 abbrev pub afterLength : List ℕ
-afterLength = 7 ∷ 8 ∷ 9 ∷ 10 ∷ []
+afterLength = 7 ∷ 8 ∷ 14 ∷ 9 ∷ 10 ∷ []
 
 abbrev pub standsIn : List ℕ → List ℕ → Bool
 standsIn order [] = true

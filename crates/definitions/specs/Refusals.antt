@@ -1,4 +1,4 @@
--- 01, "Refusal table": which number a call answers, and what its buffers hold then.
+-- 01, "Refusal table", with 02: which number a call answers, and what its buffers hold then.
 --
 --   refuse k t       a test of the table: number k is given where t is true
 --   firstRefusal     the number of the first test of an ordered list that applies, 0 where none does
@@ -8,9 +8,8 @@
 --   output           an output at exit: its value where the call accepts, its old contents where it refuses
 --   workAtExit       the work words at exit: as they were after a refusal from the length test or one before it, otherwise zero
 --
--- The numbers: 1 range, 2 ring, 3 degree, 4 modulus, 5 message size, 6 length, 7 padding, 8 coefficient, 9 exhausted (01: spent), 10 tail, 11 line.
--- Where several apply, the first of the list is given: 01 gives 11 first where it occurs, then the lowest number, and so every list goes
--- (Order.antt).
+-- The numbers: 1 range, 2 ring, 3 degree, 4 modulus, 5 message size, 6 length, 7 padding, 8 coefficient, 9 exhausted (01: spent), 10 tail, 11 line,
+-- 14 top coefficient (02, Q-3). Where several apply, the first of the list is given; Order.antt has the order in which every list goes.
 -- Assumes nothing.
 use Prim.Native.Nat.{ℕ, zero, suc}
 use mathlib.Core.Bool.{Bool, cond}

@@ -7,13 +7,16 @@
 --   conv             the product with t^n = 1: a_i × b_j goes to the place (i + j) modulo n (the cyclic convolution)
 --   multiplyAdd      a × b + c in R_q (000, section 3.2; 02, Q-8)
 --   one, power       1, and the powers of an element
+--   fullDegree       whether an element has degree n - 1: its coefficient of t^(n - 1) is not zero (02, Q-3)
 --   InRing           every coefficient below q: R_q, and R_ℓ where ℓ stands for q;  ListInRing: a list of its n coefficients
 --
 -- Sum and product are taken over the whole numbers; those of R_q are these modulo q, as multiplyAdd is taken.
 -- Assumes nothing.
-use Prim.Native.Nat.{ℕ, zero, suc, _+_, _*_, _%_, _<_}
+use Prim.Native.Nat.{ℕ, zero, suc, _+_, _-_, _*_, _%_, _<_}
 use mathlib.Core.Path.{_≡_}
+use mathlib.Core.Bool.{Bool, not}
 use mathlib.Core.List.{List}
+use lib.Dec.{eqb}
 use lib.ListN.{length, getD}
 use Rattle.definitions.specs.Sequences.{sum, sameNumber}
 
@@ -44,6 +47,9 @@ one k = sameNumber 0 k
 unfoldable pub power : ℕ → Element → ℕ → Element
 power n a zero = one
 power n a (suc i) = conv n a (power n a i)
+
+unfoldable pub fullDegree : ℕ → Element → Bool
+fullDegree n u = not (eqb (u (n - 1)) 0)
 
 abbrev pub InRing : ℕ → ℕ → Element → Type 0
 InRing q n a = (k : ℕ) → k < n → a k < q

@@ -47,7 +47,7 @@ callsB =
 
 pub record Witnessed : Type 0 where
   pub set : AcceptedSet setB
-  pub made : keygenAnswer setB keyRandom 2 12 16 ≡ accepted (record { secret = secretA; public = keyB; used = 10; droppedGroups = 0 })
+  pub made : keygenAnswer setB keyRandom 2 12 16 ≡ accepted (record { secret = secretA; public = keyB; used = 10; droppedGroups = 0; droppedElements = 0 })
   pub zero : ZeroOf setB keyB secretA
   pub legal : Legal setB keyB [] callsB
   pub told : events setB [] callsB ≡ encrypted (0x0E ∷ []) ∷ nothing ∷ nothing ∷ added 0 0 ∷ nothing ∷ encrypted (0x0E ∷ []) ∷ []

@@ -5,8 +5,9 @@
 --   leastBoundSet    ℓ 2, n 2, dX 1, dr 1, mlen 2, for rows of change requests: the least bound of all, 35, so every q from 36 to 2^31 - 1 is
 --                    accepted
 --   Row              what the definitions give, beside what 01, or a change request, says or lets follow
---   told..           an answer as a list: its number, then, where it is 0, the octets used and the groups dropped (02, Q-1), if it reports
---                    them, and the octets given; of keys the length of the secret before both keys;  toldNumber: the number alone
+--   told..           an answer as a list: its number, then, where it is 0, the octets used, the groups (02, Q-1) and the elements (02, Q-3)
+--                    dropped, if it reports them, and the octets given; of keys the length of the secret before both keys;  toldNumber: the
+--                    number alone
 -- Assumes nothing.
 use Prim.Native.Nat.{ℕ}
 use mathlib.Core.List.{List, [], _∷_, _++_}
@@ -60,7 +61,7 @@ ciphertextA =
 abbrev pub toldKeys : Answer KeyPair → List ℕ
 toldKeys (untouched k) = k ∷ []
 toldKeys (refused k) = k ∷ []
-toldKeys (accepted keys) = 0 ∷ keys .used ∷ keys .droppedGroups ∷ length (keys .secret) ∷ (keys .secret ++ keys .public)
+toldKeys (accepted keys) = 0 ∷ keys .used ∷ keys .droppedGroups ∷ keys .droppedElements ∷ length (keys .secret) ∷ (keys .secret ++ keys .public)
 
 abbrev pub toldCiphertext : Answer Encrypted → List ℕ
 toldCiphertext (untouched k) = k ∷ []
@@ -78,13 +79,13 @@ toldNumber (k ∷ rest) = k ∷ []
 
 -- ---- the calls of the cases, with every buffer of its exact length
 
-keygenA : List ℕ → List ℕ
+unfoldable pub keygenA : List ℕ → List ℕ
 keygenA random = toldKeys (keygenAnswer setA random 2 12 16)
 
 encryptA : List ℕ → List ℕ → List ℕ → List ℕ
 encryptA key message random = toldCiphertext (encryptAnswer setA key message random 24 16)
 
-decryptA : Parameters → List ℕ → List ℕ → List ℕ
+unfoldable pub decryptA : Parameters → List ℕ → List ℕ → List ℕ
 decryptA p secret ciphertext = toldMessage (decryptAnswer p secret ciphertext 1 16)
 
 -- w, at both places
@@ -92,7 +93,7 @@ valueA : List ℕ → List ℕ → List ℕ
 valueA secret ciphertext = tabulate 2 (decryptedValue setA (polynomialFrom setA ciphertext) (secretX setA secret) (secretY setA secret))
 
 -- case 8: 4 × 3 at every coefficient, and 3 more at the constant's
-zeroKey : List ℕ
+unfoldable pub zeroKey : List ℕ
 zeroKey = replicate 12 0
 
 largest : List ℕ
@@ -110,7 +111,7 @@ pub record Row : Type 0 where
   pub given : List ℕ
   pub expected : List ℕ
 
-row : List ℕ → List ℕ → Row
+unfoldable pub row : List ℕ → List ℕ → Row
 row given expected = record { given = given; expected = expected }
 
 unfoldable pub cases : List Row
@@ -119,7 +120,7 @@ cases =
     -- 1: (1 + 2t) × (5 + 7t)
     row (tabulate 2 (modulo 1459 (conv 2 (elementOf (1 ∷ 2 ∷ [])) (elementOf (5 ∷ 7 ∷ []))))) (19 ∷ 17 ∷ [])
     -- 2
-    ∷ row (keygenA keyRandom) (0 ∷ 10 ∷ 0 ∷ 2 ∷ (secretA ++ keyA))
+    ∷ row (keygenA keyRandom) (0 ∷ 10 ∷ 0 ∷ 0 ∷ 2 ∷ (secretA ++ keyA))
     -- 3
     ∷ row (encryptA keyA (0x0E ∷ []) (0x01 ∷ 0x00 ∷ (afterPair ++ (0x09 ∷ [])))) (0 ∷ 18 ∷ 0 ∷ ciphertextA)
     -- 4: w, the message, and refusal 10 with mlen 2

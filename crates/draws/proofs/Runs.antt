@@ -24,21 +24,34 @@ use Rattle.draws.specs.declared.Run.{Run}
 use Rattle.draws.specs.declared.Run.the-variants.{Complete, Exhausted}
 use Rattle.draws.specs.Runs.{said, drawnAnswer}
 
-abbrev pub onward : List ℕ → ℕ → ℕ → Drawn ℕ → Drawn ℕ
+abbrev pub onward : {A : Type 0} → List A → ℕ → ℕ → Drawn A → Drawn A
 onward values groups dropped rest =
     record { values = values ++ rest .values; groups = groups + rest .groups; dropped = dropped + rest .dropped; enough = rest .enough }
 
-onward-kept : (values : List ℕ) (groups dropped x : ℕ) (d : Drawn ℕ)
+pub onward-kept : {A : Type 0} (values : List A) (groups dropped : ℕ) (x : A) (d : Drawn A)
     → onward values groups dropped (keep x d) ≡ onward (values ++ (x ∷ [])) (groups + 1) dropped d
 onward-kept values groups dropped x d =
     let moved : groups + suc (d .groups) ≡ groups + 1 + d .groups = omega arith in
     rw (append-assoc, moved)
 
-onward-dropped : (values : List ℕ) (groups dropped : ℕ) (d : Drawn ℕ) → onward values groups dropped (discard d) ≡ onward values (groups + 1) (dropped + 1) d
+pub onward-dropped : {A : Type 0} (values : List A) (groups dropped : ℕ) (d : Drawn A) → onward values groups dropped (discard d) ≡ onward values (groups + 1) (dropped + 1) d
 onward-dropped values groups dropped d =
     let moved : groups + suc (d .groups) ≡ groups + 1 + d .groups = omega arith in
     let more : dropped + suc (d .dropped) ≡ dropped + 1 + d .dropped = omega arith in
     rw (moved, more)
+
+-- ---- what is to be said of a run
+
+pub drawnAnswer-ended : {A : Type 0} (d : Drawn A) → d .enough ≡ false → refused 9 ≡ drawnAnswer d
+unfolding drawnAnswer answer firstRefusal
+drawnAnswer-ended d e = rw e
+
+pub drawnAnswer-whole : {A : Type 0} (d : Drawn A) (values : List A) (groups dropped : ℕ)
+    → (let whole : Drawn A = record { values = values; groups = groups; dropped = dropped; enough = true } in d ≡ whole → accepted whole ≡ drawnAnswer d)
+unfolding drawnAnswer answer firstRefusal
+drawnAnswer-whole d values groups dropped e = rw e
+
+-- ---- a run under way
 
 pub record Going (q : ℕ) (random : List ℕ) (start : ℕ) (words : List ℕ) (i at groups dropped : ℕ) : Type 0 where
   pub least : 0 < qlen q
@@ -101,39 +114,38 @@ module _ {q : ℕ} {random : List ℕ} {start : ℕ} {words : List ℕ} {i at gr
           }
 
   pub going-exhausted : {n : ℕ} → length words ≡ n → i < length words → length random - at < qlen q → refused 9 ≡ drawnAnswer (drawsAt q random n start)
-  unfolding drawnAnswer answer firstRefusal
   going-exhausted same inside short =
       let ended : drawsAt q random (length words) start .enough ≡ false =
       ap (λ (d : Drawn ℕ). d .enough) (going .whole) ∙ rw (one-less inside) (drawsAt-ended q random at (length words - (i + 1)) short) in
-      rw (← same, ended)
+      rw (← same) (drawnAnswer-ended _ ended)
 
   pub going-complete : {n g d : ℕ} → length words ≡ n → length words ≤ i → g ≡ groups → d ≡ dropped
       → accepted (record { values = words; groups = g; dropped = d; enough = true }) ≡ drawnAnswer (drawsAt q random n start)
-  unfolding drawnAnswer answer firstRefusal drawsBelow draws
+  unfolding drawsBelow draws
   going-complete same done e f =
       let none : length words - i ≡ 0 = omega arith in
       let whole : drawsAt q random (length words) start ≡ record { values = words; groups = groups; dropped = dropped; enough = true } =
       going .whole ∙ rw (none, take-all i words done, append-nil, add-zero, add-zero) in
-      rw (← same, whole, e, f)
+      rw (← same, e, f) (drawnAnswer-whole _ words groups dropped whole)
 
 -- ---- what an answer tells a caller
 
-complete-told : (enough : Bool) (d e : Drawn ℕ) → accepted e ≡ answer [] (refuse 9 (not enough) ∷ []) d → d ≡ e
+complete-told : {A : Type 0} (enough : Bool) (d e : Drawn A) → accepted e ≡ answer [] (refuse 9 (not enough) ∷ []) d → d ≡ e
 unfolding answer firstRefusal
 complete-told true d e h = cc
 complete-told false d e h = cc
 
-exhausted-told : (enough : Bool) (d : Drawn ℕ) → refused 9 ≡ answer [] (refuse 9 (not enough) ∷ []) d → enough ≡ false
+exhausted-told : {A : Type 0} (enough : Bool) (d : Drawn A) → refused 9 ≡ answer [] (refuse 9 (not enough) ∷ []) d → enough ≡ false
 unfolding answer firstRefusal
 exhausted-told true d h = cc
 exhausted-told false d h = refl
 
-pub said-complete : (d : Drawn ℕ) (words : List ℕ) {run : Run} {groups dropped : ℕ} → run ≡ Complete groups dropped → said run words ≡ drawnAnswer d
-    → d ≡ record { values = words; groups = groups; dropped = dropped; enough = true }
+pub said-complete : {A : Type 0} (d : Drawn A) (values : List A) {run : Run} {groups dropped : ℕ} → run ≡ Complete groups dropped → said run values ≡ drawnAnswer d
+    → d ≡ record { values = values; groups = groups; dropped = dropped; enough = true }
 unfolding drawnAnswer
-said-complete d words {groups = groups} {dropped} e told =
-    complete-told (d .enough) d (record { values = words; groups = groups; dropped = dropped; enough = true }) (rw e at told)
+said-complete d values {groups = groups} {dropped} e told =
+    complete-told (d .enough) d (record { values = values; groups = groups; dropped = dropped; enough = true }) (rw e at told)
 
-pub said-exhausted : (d : Drawn ℕ) (words : List ℕ) {run : Run} → run ≡ Exhausted → said run words ≡ drawnAnswer d → d .enough ≡ false
+pub said-exhausted : {A : Type 0} (d : Drawn A) (values : List A) {run : Run} → run ≡ Exhausted → said run values ≡ drawnAnswer d → d .enough ≡ false
 unfolding drawnAnswer
-said-exhausted d words e told = exhausted-told (d .enough) d (rw e at told)
+said-exhausted d values e told = exhausted-told (d .enough) d (rw e at told)

@@ -27,11 +27,12 @@ module _ (s : Parameters) {r : Checked} (e : checkedAs r ≡ setAnswer s) where
         → leaves (untouched k) ≡ leaves (answer (lengthTests s exact) later a)
     refused leaves exact later a = let told = checked-refused s e same in exit-set leaves s exact later a (told .0) (told .1)
 
-    pub keygen-refused : (random secret public : List ℕ) (used dropped : ℕ) (work : List ℕ)
-        → _≡_ {A = KeygenExit} (record { refusal = k; secret = secret; public = public; used = used; droppedGroups = dropped; work = work })
-        (keygenExit s random secret public used dropped work)
+    pub keygen-refused : (random secret public : List ℕ) (used groups elements : ℕ) (work : List ℕ)
+        → _≡_ {A = KeygenExit}
+        (record { refusal = k; secret = secret; public = public; used = used; droppedGroups = groups; droppedElements = elements; work = work })
+        (keygenExit s random secret public used groups elements work)
     unfolding keygenExit keygenAnswer
-    keygen-refused random secret public used dropped work = refused (λ x. keygenLeaves x secret public used dropped work) _ _ _
+    keygen-refused random secret public used groups elements work = refused (λ x. keygenLeaves x secret public used groups elements work) _ _ _
 
     pub isZero-refused : (secret public : List ℕ) (old : ℕ) (work : List ℕ)
         → _≡_ {A = IsZeroExit} (record { refusal = k; zero = old; work = work }) (isZeroExit s secret public old work)

@@ -84,7 +84,7 @@ pub extern "C" fn giophantus_lengths(
     }
 }
 
-// A secret key and its public key from random octets, the octets used and the groups dropped.
+// A secret key and its public key from random octets, the octets used, and the groups and the elements dropped.
 #[no_mangle]
 pub extern "C" fn giophantus_keygen(
     l: u32,
@@ -94,16 +94,17 @@ pub extern "C" fn giophantus_keygen(
     dr: u32,
     mlen: u32,
     random: &[u8],
-    secret_key: &mut [u8],
-    public_key: &mut [u8],
+    secret: &mut [u8],
+    public: &mut [u8],
     work: &mut [u32],
     used: &mut u64,
-    dropped: &mut u64,
+    groups: &mut u64,
+    elements: &mut u64,
 ) -> u32
-    ensures { λ r. ⌜ Makes (set l q n dx dr mlen) random «secret_key» «public_key» work used dropped r ⌝ }
+    ensures { λ r. ⌜ Makes (set l q n dx dr mlen) random secret public work used groups elements r ⌝ }
 {
     match Parameters::new(l, q, n, dx, dr, mlen) {
-        Checked::Accepted(p) => keygen(p, random, secret_key, public_key, work, used, dropped),
+        Checked::Accepted(p) => keygen(p, random, secret, public, work, used, groups, elements),
         Checked::Refused(k) => k,
     }
 }

@@ -27,7 +27,7 @@ use Rattle.definitions.proofs.KeyTerms.{key-fits, key-value}
 use Rattle.ring.specs.Work.{part, negated}
 use Rattle.ring.proofs.Work.{written-part}
 use Rattle.key_generation.specs.Keys.{withConstant}
-use Rattle.key_generation.proofs.Parts.{put-tail}
+use Rattle.key_draws.proofs.Parts.{put-tail}
 
 module _ (p : Parameters) (a : Accepted p) (others : List ℕ) (sized : length others ≡ (monomialCount (p .dx) - 1) * p .n) (below : AllBelow (p .q) others) where
   abbrev zeros : List ℕ

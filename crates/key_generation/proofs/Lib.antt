@@ -1,5 +1,4 @@
 -- Laws that the proofs cite.
-pub mod Parts
 pub mod Words
 pub mod Constant
 pub mod Returns

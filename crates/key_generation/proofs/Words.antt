@@ -1,59 +1,33 @@
--- Why what is drawn can be packed and evaluated: secret elements have b bits, and the terms lie inside the work words.
+-- Why what is drawn can be packed and evaluated: elements of the secret have b bits, and the terms lie inside the work words.
 --
---   termsEnd-room        the words of the terms, and one element more, lie inside the work words
 --   set-sizes            what the evaluation asks of n, qlen and the work words
---   drawn-in             secret elements are small;  small-packs: small elements can be packed
+--   small-packs          small elements can be packed
 --   half-at              the elements of a half are those of its part of the work words;  half-ring: and below 16
---   halves-drawn         u_x and u_y, one behind the other;  halves-kept: words that are as they were
---   key-words            what is asked of the work words holds once all is drawn
 --   half-packed          a half packed into its octets
---   terms-drawn          a run of draws lent the words of the terms leaves them there, and u_x and u_y as they were
 --   terms-cleared        the words of the terms and a cleared element behind them
---   used-room            the octets used are among those lent
 -- Assumes nothing.
 use Prim.Native.Nat.{ℕ, _+_, _-_, _*_, _^_, _≤_, _<_}
-use native.Mathlib.Nat.{mul-le-mul-right, zero-add}
 use native.Mathlib.Omega.{arith}
 use mathlib.Core.Path.{_≡_, ap, sym, _∙_}
 use mathlib.Core.Bool.{true}
-use mathlib.Core.Logic.{⊎-elim}
 use mathlib.Core.List.{List, _++_}
-use lib.ListN.{length, getD, take, drop, replicate}
+use lib.ListN.{length, getD, take, replicate}
 use lib.Seq.{slice}
 use borrow.Rule.Slice.PartMut.{midOf, putMid, same-len-mid, mid-len}
-use Rattle.definitions.specs.Parameters.{Parameters, smallBits, qlen, monomialCount, smallLength, secretLength}
+use Rattle.definitions.specs.Parameters.{Parameters, smallBits, qlen, monomialCount, smallLength}
 use Rattle.definitions.specs.Ring.{elementOf, InRing}
 use Rattle.definitions.specs.Octets.{coefficientsFit, packed}
-use Rattle.definitions.specs.Draws.{drawsBelow, secretDrawn}
-use Rattle.definitions.specs.Calls.{keyCoefficients, keyDraws}
-use Rattle.definitions.specs.Demand3.{AcceptedSet, InSmallRing}
-use Rattle.definitions.proofs.Parameters.{Accepted, accepted-set, range-most, modulus-positive, modulus-word, qlen-least, qlen-most}
+use Rattle.definitions.specs.Demand3.{InSmallRing}
+use Rattle.definitions.proofs.Parameters.{Accepted, range-most, modulus-positive, modulus-word, qlen-least, qlen-most}
 use Rattle.definitions.proofs.Parameters.{smallBits-power, smallBits-least, smallBits-most}
 use Rattle.definitions.proofs.Octets.{coefficientsFit-true}
-use Rattle.definitions.proofs.Small.{unpacked-small}
-use Rattle.definitions.proofs.MadeKeys.{keyDraws-below}
-use Rattle.draws.specs.Runs.{said, drawnAnswer}
-use Rattle.draws.specs.declared.Run.{Run}
-use Rattle.draws.proofs.Groups.{drawsAt-within}
 use Rattle.definitions.proofs.Monomials.{count-suc}
 use Rattle.ring.specs.Work.{part}
 use Rattle.decoding.specs.Elements.{Sizes}
-use Rattle.key_generation.specs.Keys.{Follows, termsEnd, wordsTerms, HalvesDrawn, KeyWords}
-use Rattle.key_generation.proofs.Parts.{borrowed-slice, put-zeros, put-follows, follows-slice, follows-kept, slice-kept, slice-at}
-
-pub used-room : (p : Parameters) (random : List ℕ) → secretLength p ≤ length random
-    → secretLength p + qlen (p .q) * keyDraws p random .groups ≤ length random
-unfolding keyDraws
-used-room p random room = drawsAt-within (p .q) random (secretLength p) (keyCoefficients p) room
+use Rattle.key_draws.specs.Keys.{Follows, termsEnd, wordsTerms}
+use Rattle.key_draws.proofs.Parts.{borrowed-slice, put-zeros, put-follows, follows-kept, slice-kept, slice-at}
 
 module _ (p : Parameters) (a : Accepted p) where
-  pub others-most : monomialCount (p .dx) - 1 ≤ 5
-  unfolding monomialCount
-  others-most = ⊎-elim (λ e. rw e (omega arith)) (λ e. rw e (omega arith)) (a .key-degree)
-
-  pub termsEnd-room : termsEnd p + p .n ≤ 8 * p .n
-  termsEnd-room = omega (arith, mul-le-mul-right (p .n) others-most)
-
   pub set-sizes : (work : List ℕ) → length work ≡ 8 * p .n → Sizes (p .n) (qlen (p .q)) work
   set-sizes work e =
       record {
@@ -63,10 +37,6 @@ module _ (p : Parameters) (a : Accepted p) where
         octets-most = qlen-most (p .q);
         room = e;
       }
-
-  drawn-in : (random : List ℕ) → InSmallRing p (secretDrawn p random)
-  unfolding secretDrawn
-  drawn-in random = unpacked-small p a (take (smallLength p) random)
 
   pub small-packs : (words : List ℕ) {b : ℕ} {lent : List ℕ} → b ≡ smallBits (p .l) → lent ≡ words → InSmallRing p words
       → (1 ≤ b) × (b ≤ 4) × (coefficientsFit (2 ^ b) lent ≡ true)
@@ -86,55 +56,6 @@ module _ (p : Parameters) (a : Accepted p) where
 
       pub half-ring : InSmallRing p (slice at stop old) → InRing 16 (p .n) (part work at)
       half-ring small k l = rw (half-at k l) (omega (arith, small .below k l, range-most p (a .range)))
-
-module _ (p : Parameters) (random work : List ℕ) where
-  -- u_x, and then u_y behind it
-  pub halves-drawn : (old mid : List ℕ) → p .n + p .n ≤ length old → length mid ≡ length old
-      → Follows 0 (0 + p .n) (secretDrawn p random) old mid → Follows (p .n) (p .n + p .n) (secretDrawn p (drop (smallLength p) random)) mid work
-      → HalvesDrawn p random work
-  halves-drawn old mid room sized fx fy =
-      let kept : take (p .n) work ≡ take (p .n) mid = follows-kept (p .n) (p .n + p .n) _ mid work (omega arith) fy (omega arith) in
-      record {
-        x = slice-kept 0 (p .n) (p .n) mid work (omega arith) kept ∙ follows-slice 0 (p .n) _ old mid (omega arith) (rw (zero-add (p .n)) at fx);
-        y = follows-slice (p .n) (p .n + p .n) _ mid work (omega arith) fy;
-      }
-
-  pub halves-kept : (old : List ℕ) → HalvesDrawn p random old → take (p .n + p .n) work ≡ take (p .n + p .n) old → HalvesDrawn p random work
-  halves-kept old drawn kept =
-      record {
-        x = slice-kept 0 (p .n) (p .n + p .n) old work (omega arith) kept ∙ drawn .x;
-        y = slice-kept (p .n) (p .n + p .n) (p .n + p .n) old work (omega arith) kept ∙ drawn .y;
-      }
-
-  pub key-words : AcceptedSet p → length work ≡ 8 * p .n → HalvesDrawn p random work → wordsTerms p work ≡ keyDraws p random .values → KeyWords p work
-  key-words set sized drawn terms =
-      let a : Accepted p = accepted-set p set in
-      record {
-        set = set;
-        sized = sized;
-        x = rw (drawn .x) (drawn-in p a random);
-        y = rw (drawn .y) (drawn-in p a (drop (smallLength p) random));
-        terms = rw terms (coefficientsFit-true (p .q) (keyDraws p random .values) (keyDraws-below p random));
-      }
-
--- a run of draws lent the words of the terms
-pub terms-drawn : (p : Parameters) (random work words : List ℕ) (run : Run) {start stop : ℕ} → start ≡ secretLength p → stop ≡ termsEnd p → stop ≤ length work
-    → length words ≡ length (midOf (p .n + p .n) (stop - (p .n + p .n)) work)
-    → said run words ≡ drawnAnswer (drawsBelow (p .q) (length (midOf (p .n + p .n) (stop - (p .n + p .n)) work)) (drop start random))
-    → (said run (wordsTerms p (putMid (p .n + p .n) (stop - (p .n + p .n)) work words)) ≡ drawnAnswer (keyDraws p random))
-    × (take (p .n + p .n) (putMid (p .n + p .n) (stop - (p .n + p .n)) work words) ≡ take (p .n + p .n) work)
-unfolding keyDraws
-terms-drawn p random work words run {start} {stop} es e room sized told =
-    let at : ℕ = p .n + p .n in
-    let more : at ≤ stop = omega arith in
-    let given : List ℕ = putMid at (stop - at) work words in
-    let count : length (midOf at (stop - at) work) ≡ keyCoefficients p = mid-len at stop work room ∙ omega arith in
-    let f : Follows at stop words work given = put-follows at stop work more room words sized in (
-      rw (← e, ← es)
-          (ap (λ (w : List ℕ). said run w) (follows-slice at stop words work given (omega arith) f)
-          ∙ told ∙ ap (λ (m : ℕ). drawnAnswer (drawsBelow (p .q) m (drop start random))) count),
-      follows-kept at stop words work given (omega arith) f more,
-    )
 
 -- the work words with the constant's cleared, and what of them is lent to be encoded
 pub record TermsLent (p : Parameters) (work given lent : List ℕ) : Type 0 where

@@ -1,5 +1,5 @@
 // A parameter set (01, "The parameter set"): its tests, its noise bound and headroom, and the bits of a small coefficient.
-// `Parameters::new` refuses a set that fails a test with 1 to 5, the lowest that applies; nothing wraps, whatever the six numbers are. It is
+// `Parameters::new` refuses a set that fails a test with 1 to 5, the first that applies; nothing wraps, whatever the six numbers are. It is
 // the only way to a set that is worked with: whatever takes one requires AcceptedSet of it. The contracts cite the definitions' setTests,
 // limitsOf and smallBits, through specs/Answers.antt.
 pub mod refusals;

@@ -1,4 +1,4 @@
-// 01, "Refusal table": the numbers that a call answers. 0 is success.
+// 01, "Refusal table", and 02: the numbers that a call answers. 0 is success.
 pub const RANGE: u32 = 1;
 
 pub const RING: u32 = 2;
@@ -20,3 +20,5 @@ pub const EXHAUSTED: u32 = 9;
 pub const TAIL: u32 = 10;
 
 pub const LINE: u32 = 11;
+// 02, Q-3: a given secret element has a zero top coefficient
+pub const TOP_COEFFICIENT: u32 = 14;

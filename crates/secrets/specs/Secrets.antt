@@ -2,21 +2,19 @@
 --
 --   half             the octets of one small element, from a place of the secret on
 --   ValueInputs      a set and buffers that pass the tests up to the length test
---   judgeTests       the tests that follow it in both calls: 7 of the secret, 8 of the polynomial
 --   valueFrom        the polynomial's value at the secret, in R_q
 --   Unpacked         both elements of the secret stand in the first two parts of the work words
---   Valued           what a call of `value` leaves: the number of the tests, and where it is 0 the value in the third part
+--   Valued           what a call of `value` leaves: the number of the tests after the length test, and where it is 0 the value in the third part
 -- Assumes nothing.
 use Prim.Native.Nat.{ℕ, _+_, _*_, _≤_, _<_}
 use mathlib.Core.Path.{_≡_}
-use mathlib.Core.Bool.{not}
-use mathlib.Core.List.{List, [], _∷_}
+use mathlib.Core.List.{List}
 use lib.ListN.{length, take, drop}
-use Rattle.definitions.specs.Refusals.{Test, refuse, firstRefusal}
+use Rattle.definitions.specs.Refusals.{firstRefusal}
 use Rattle.definitions.specs.Parameters.{Parameters, monomialCount, smallLength, secretLength, elementsLength, workLength}
 use Rattle.definitions.specs.Ring.{Element, modulo}
 use Rattle.definitions.specs.Monomials.{value}
-use Rattle.definitions.specs.Calls.{secretX, secretY, secretBitsClear, polynomialFrom, elementsFit}
+use Rattle.definitions.specs.Calls.{secretX, secretY, polynomialFrom, secretTests}
 use Rattle.definitions.specs.Demand3.{AcceptedSet}
 use Rattle.ring.specs.Work.{part}
 
@@ -31,10 +29,6 @@ pub record ValueInputs (p : Parameters) (d : ℕ) (secret octets work : List ℕ
   pub octets-length : length octets ≡ elementsLength p (monomialCount d)
   pub work-length : length work ≡ workLength p
 
-abbrev pub judgeTests : Parameters → ℕ → List ℕ → List ℕ → List Test
-judgeTests p d secret octets =
-    refuse 7 (not (secretBitsClear p secret)) ∷ refuse 8 (not (elementsFit p (monomialCount d) octets)) ∷ []
-
 abbrev pub valueFrom : Parameters → ℕ → List ℕ → List ℕ → Element
 valueFrom p d secret octets = modulo (p .q) (value (p .n) d (polynomialFrom p octets) (secretX p secret) (secretY p secret))
 
@@ -43,5 +37,5 @@ pub record Unpacked (p : Parameters) (secret work : List ℕ) : Type 0 where
   pub y : (k : ℕ) → k < p .n → part work (p .n) k ≡ secretY p secret k
 
 pub record Valued (p : Parameters) (d : ℕ) (secret octets : List ℕ) (refusal : ℕ) (work : List ℕ) : Type 0 where
-  pub number : refusal ≡ firstRefusal (judgeTests p d secret octets)
+  pub number : refusal ≡ firstRefusal (secretTests p d secret octets)
   pub value : refusal ≡ 0 → (k : ℕ) → k < p .n → part work (2 * p .n) k ≡ valueFrom p d secret octets k

@@ -1,7 +1,7 @@
 // The zero test (01, "Draws from lent random octets": zero test): whether the key's value at a secret is 0.
-// It refuses a length that is not the exact one (6), a secret with an unused bit set (7) and a coefficient of the key that is not below q
-// (8); a refusal leaves the answer as it was. The set is accepted. The work words are zero after every ending past the length test. The
-// contract is the definitions' TellsZero.
+// It refuses a length that is not the exact one (6), a secret with an unused bit set (7), a coefficient of the key that is not below q (8)
+// and a secret element with a zero top coefficient (14); a refusal leaves the answer as it was. The set is accepted. The work words are zero
+// after every ending past the length test. The contract is the definitions' TellsZero.
 ghost use Rattle.definitions.specs.Contracts.{TellsZero};
 ghost use Rattle.definitions.specs.Demand3.{AcceptedSet};
 ghost use Rattle.parameters.specs.Answers.{setFrom};

@@ -104,6 +104,7 @@ pub struct Keys {
     pub public_key: Vec<u8>,
     pub used: u64,
     pub dropped_groups: u64,
+    pub dropped_elements: u64,
 }
 
 /// The two numbers that keygen and encrypt tell of their random octets.
@@ -113,11 +114,9 @@ struct Told {
 }
 
 impl Told {
-    /// Garbage. That of the dropped groups is made from that of the octets used and takes nothing from
-    /// the run's sequence, so that the known answers of before document 02's Q-1 stay the same.
     fn garbage(prng: &mut Prng) -> Self {
         let used = Buffer::one("used", prng);
-        let dropped_groups = Buffer::one("dropped_groups", &mut Prng::new(used.slice()[0]));
+        let dropped_groups = garbage_after(&used, "dropped_groups");
         Told {
             used,
             dropped_groups,
@@ -126,13 +125,19 @@ impl Told {
 
     /// Both numbers. Those of an accepted call fit together, which needs no reference implementation:
     /// `wanted` gives the octets used from the dropped groups.
-    fn numbers(&self, run: &Run, set: Set, number: u32, wanted: fn(Set, u64) -> u64) -> [u64; 2] {
+    fn numbers(&self, run: &Run, set: Set, number: u32, wanted: impl Fn(u64) -> u64) -> [u64; 2] {
         let [used, dropped_groups] = [&self.used, &self.dropped_groups].map(|one| one.slice()[0]);
-        let right = number != 0 || used == wanted(set, dropped_groups);
-        let words = "the octets used are the fixed part and qlen for each dropped group";
+        let right = number != 0 || used == wanted(dropped_groups);
+        let words = "the octets used are the fixed part and those of what was dropped";
         run.expect(right, set, words);
         [used, dropped_groups]
     }
+}
+
+/// Garbage that is made from the number before it and takes nothing from the run's sequence, so that the known
+/// answers of before the call told this number stay the same.
+fn garbage_after(before: &Buffer<u64>, name: &'static str) -> Buffer<u64> {
+    Buffer::one(name, &mut Prng::new(before.slice()[0]))
 }
 
 /// What keygen is lent.
@@ -142,9 +147,26 @@ struct KeygenBuffers {
     public_key: Buffer<u8>,
     work: Buffer<u32>,
     told: Told,
+    dropped_elements: Buffer<u64>,
 }
 
 impl KeygenBuffers {
+    fn new(random: &[u8], lengths: KeygenLengths, prng: &mut Prng) -> Self {
+        let random = Buffer::given("random", random, prng);
+        let secret_key = Buffer::garbage("secret_key", lengths.secret_key, prng);
+        let public_key = Buffer::garbage("public_key", lengths.public_key, prng);
+        let work = Buffer::garbage("work", lengths.work, prng);
+        let told = Told::garbage(prng);
+        KeygenBuffers {
+            random,
+            secret_key,
+            public_key,
+            work,
+            dropped_elements: garbage_after(&told.dropped_groups, "dropped_elements"),
+            told,
+        }
+    }
+
     /// The library's number and the reference implementation's.
     #[inline]
     fn call(&mut self, set: Set) -> [u32; 2] {
@@ -156,6 +178,7 @@ impl KeygenBuffers {
             self.work.slice_mut(),
             self.told.used.cell_mut(),
             self.told.dropped_groups.cell_mut(),
+            self.dropped_elements.cell_mut(),
         );
         let wanted = reference::keygen(
             set,
@@ -165,6 +188,7 @@ impl KeygenBuffers {
             self.work.wanted(),
             self.told.used.wanted_cell(),
             self.told.dropped_groups.wanted_cell(),
+            self.dropped_elements.wanted_cell(),
         );
         [number, wanted]
     }
@@ -172,14 +196,7 @@ impl KeygenBuffers {
 
 #[inline]
 pub fn keygen(run: &mut Run, set: Set, random: &[u8], lengths: KeygenLengths) -> Keys {
-    let prng = &mut run.prng;
-    let mut lent = KeygenBuffers {
-        random: Buffer::given("random", random, prng),
-        secret_key: Buffer::garbage("secret_key", lengths.secret_key, prng),
-        public_key: Buffer::garbage("public_key", lengths.public_key, prng),
-        work: Buffer::garbage("work", lengths.work, prng),
-        told: Told::garbage(prng),
-    };
+    let mut lent = KeygenBuffers::new(random, lengths, &mut run.prng);
     run.announce("keygen", set);
     let [number, wanted] = lent.call(set);
     let told = &lent.told;
@@ -194,16 +211,20 @@ pub fn keygen(run: &mut Run, set: Set, random: &[u8], lengths: KeygenLengths) ->
             &lent.public_key,
             &told.used,
             &told.dropped_groups,
+            &lent.dropped_elements,
         ],
         work: Some(&lent.work),
     });
-    let [used, dropped_groups] = told.numbers(run, set, number, used::keygen);
+    let dropped_elements = lent.dropped_elements.slice()[0];
+    let wanted = |groups| used::keygen(set, groups, dropped_elements);
+    let [used, dropped_groups] = told.numbers(run, set, number, wanted);
     Keys {
         number,
         secret_key: lent.secret_key.contents(),
         public_key: lent.public_key.contents(),
         used,
         dropped_groups,
+        dropped_elements,
     }
 }
 
@@ -339,7 +360,8 @@ pub fn encrypt(
         outputs: &[&lent.ciphertext, &told.used, &told.dropped_groups],
         work: Some(&lent.work),
     });
-    let [used, dropped_groups] = told.numbers(run, set, number, used::encrypt);
+    let wanted = |groups| used::encrypt(set, groups);
+    let [used, dropped_groups] = told.numbers(run, set, number, wanted);
     Encrypted {
         number,
         ciphertext: lent.ciphertext.contents(),

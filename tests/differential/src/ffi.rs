@@ -64,7 +64,7 @@ interface! {
     );
     keygen as giophantus_keygen(
         random: &[u8], secret_key: &mut [u8], public_key: &mut [u8], work: &mut [u32],
-        used: &mut u64, dropped_groups: &mut u64
+        used: &mut u64, dropped_groups: &mut u64, dropped_elements: &mut u64
     );
     is_zero as giophantus_is_zero(
         secret_key: &[u8], public_key: &[u8], work: &mut [u32], zero: &mut u32

@@ -1,6 +1,8 @@
 //! Arguments for the calls: coefficients, packed elements and random octets, made so that it is
 //! known without the reference implementation how many octets a call uses.
 
+use std::ops::Range;
+
 use reference::monomials::count;
 use reference::octets;
 use reference::prng::Prng;
@@ -35,8 +37,46 @@ pub fn small(set: Set, prng: &mut Prng) -> Vec<u8> {
     )
 }
 
+/// The bits of a packed element's top coefficient, that of t^(n - 1).
+pub fn top_bits(set: Set) -> Range<usize> {
+    let b = set.b() as usize;
+    (set.places() - 1) * b..set.places() * b
+}
+
+/// The top coefficient of a packed element.
+pub fn top(set: Set, packed: &[u8]) -> u32 {
+    let bit = |at: usize| u32::from(packed[at / 8] >> (at % 8) & 1);
+    top_bits(set).rev().fold(0, |top, at| 2 * top + bit(at))
+}
+
+/// The packed element with another top coefficient.
+pub fn with_top(set: Set, packed: &[u8], number: u32) -> Vec<u8> {
+    let mut found = packed.to_vec();
+    for (k, at) in top_bits(set).enumerate() {
+        found[at / 8] &= !(1 << (at % 8));
+        found[at / 8] |= ((number >> k & 1) as u8) << (at % 8);
+    }
+    found
+}
+
+/// The packed element, with a top coefficient that isn't zero: its own, or else one that is made from the other
+/// coefficients. It takes nothing from the run's sequence, so that the known answers of before document 02's Q-3 stay
+/// the same.
+pub fn of_full_degree(set: Set, packed: &[u8]) -> Vec<u8> {
+    let sum: u32 = packed.iter().map(|&octet| u32::from(octet)).sum();
+    match top(set, packed) {
+        0 => with_top(set, packed, 1 + sum % (set.l - 1)),
+        _ => packed.to_vec(),
+    }
+}
+
+/// A packed element of a secret key.
+pub fn secret_element(set: Set, prng: &mut Prng) -> Vec<u8> {
+    of_full_degree(set, &small(set, prng))
+}
+
 pub fn secret_key(set: Set, prng: &mut Prng) -> Vec<u8> {
-    [small(set, prng), small(set, prng)].concat()
+    [secret_element(set, prng), secret_element(set, prng)].concat()
 }
 
 pub fn public_key(set: Set, prng: &mut Prng) -> Vec<u8> {
@@ -98,14 +138,26 @@ fn dropping(prng: &mut Prng) -> u64 {
     [0, 0, 4, 7][prng.below(4) as usize]
 }
 
-/// Exactly the random octets that keygen uses.
-pub fn keygen_random(set: Set, prng: &mut Prng) -> Vec<u8> {
+/// Two small elements with any top coefficients, and the draws below q of keygen.
+pub fn keygen_parts(set: Set, prng: &mut Prng) -> [Vec<u8>; 3] {
     let eighths = dropping(prng);
     let coefficients = (count(set.dx) - 1) * set.places();
-    let mut found = small_draw(set, prng);
-    found.extend(small_draw(set, prng));
-    found.extend(draws(set, coefficients, eighths, prng));
-    found
+    [
+        small_draw(set, prng),
+        small_draw(set, prng),
+        draws(set, coefficients, eighths, prng),
+    ]
+}
+
+/// Exactly the random octets that keygen uses. Behind a small element that is dropped stands the same with another
+/// top coefficient.
+pub fn keygen_random(set: Set, prng: &mut Prng) -> Vec<u8> {
+    let [x, y, coefficients] = keygen_parts(set, prng);
+    let kept = |drawn: Vec<u8>| match top(set, &drawn) {
+        0 => [drawn.clone(), of_full_degree(set, &drawn)].concat(),
+        _ => drawn,
+    };
+    [kept(x), kept(y), coefficients].concat()
 }
 
 /// Exactly the random octets that encrypt uses, and how many of them are for r.

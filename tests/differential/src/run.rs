@@ -9,6 +9,7 @@ use reference::prng::Prng;
 use reference::Set;
 
 use crate::buffer::Checked;
+use crate::order;
 
 /// In a short run one set in so many is taken.
 const SHORT: u64 = 8;
@@ -151,9 +152,9 @@ fn first_difference(made: &Made) -> Option<String> {
         }
     }
     let work = made.work?;
-    match number {
-        1..=6 if !work.is_old() => Some(format!("work words changed at refusal {number}")),
-        0 | 7.. if !work.is_zero() => Some(format!("work words not zero after answer {number}")),
+    match order::leaves_work(number) {
+        true if !work.is_old() => Some(format!("work words changed at refusal {number}")),
+        false if !work.is_zero() => Some(format!("work words not zero after answer {number}")),
         _ => None,
     }
 }

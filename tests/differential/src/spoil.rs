@@ -4,6 +4,8 @@ use reference::prng::Prng;
 use reference::set::bound;
 use reference::Set;
 
+use crate::inputs::with_top;
+use crate::order;
 use crate::sets::MOST_Q;
 
 fn pick(list: &[u32], prng: &mut Prng) -> u32 {
@@ -157,6 +159,23 @@ impl Way {
                 spoil_padding(packed, used_bits, prng);
             }
         }
+    }
+
+    /// A zero top coefficient of the first half, of the second, or of both.
+    pub fn top(self, kind: u32, set: Set, secret_key: &mut [u8]) {
+        for (half, packed) in secret_key.chunks_mut(set.small_octets()).enumerate() {
+            if self.has(kind + half as u32) {
+                packed.copy_from_slice(&with_top(set, packed, 0));
+            }
+        }
+    }
+
+    /// The refusal that is given where each kind is that of `numbers`; 0 is a kind that isn't refused.
+    pub fn refusal(self, numbers: &[u32]) -> u32 {
+        let kinds = (0..).zip(numbers);
+        let applying = kinds.filter(|(kind, _)| self.has(*kind));
+        let applying: Vec<u32> = applying.map(|(_, &number)| number).collect();
+        order::first(&applying)
     }
 
     /// Random octets cut anywhere, by one, or to none.

@@ -79,7 +79,7 @@ pub fn turned_back(numbers: &[u32], power: usize) -> Vec<u32> {
     turned(numbers, numbers.len() - power % numbers.len())
 }
 
-/// The sum of these powers of t, or 0 where there are none.
+/// The sum of these powers of t.
 pub fn powers_of_t(set: Set, powers: &[usize]) -> Vec<u32> {
     let mut element = vec![0; set.places()];
     for power in powers {
@@ -107,21 +107,16 @@ pub fn packed(set: Set, elements: &[Vec<u32>]) -> Vec<u8> {
     elements.iter().flat_map(pack).collect()
 }
 
-/// A secret key of two powers of t, or 0 where there is none, and a polynomial whose value there is the
-/// sum of these elements, place by place: each is turned back by what its monomial turns it.
-pub fn meeting(
-    set: Set,
-    degree: u32,
-    mut elements: Elements,
-    powers: [Option<usize>; 2],
-) -> [Vec<u8>; 2] {
-    let [x, y] = powers.map(|power| power.unwrap_or(0));
+/// A secret key of two powers of t, and a polynomial whose value there is the sum of these elements, place by place:
+/// each is turned back by what its monomial turns it.
+pub fn meeting(set: Set, degree: u32, mut elements: Elements, powers: [usize; 2]) -> [Vec<u8>; 2] {
+    let [x, y] = powers;
     let list = monomials(degree);
     for (at, element) in &mut elements {
         let (i, j) = list[*at];
         *element = turned_back(element, i as usize * x + j as usize * y);
     }
-    let small = powers.map(|power| powers_of_t(set, power.as_slice()));
+    let small = powers.map(|power| powers_of_t(set, &[power]));
     [packed(set, &small), polynomial(set, degree, &elements)]
 }
 

@@ -17,11 +17,12 @@ fn small(set: Set) -> u64 {
     u64::from(set.n * set.l.ilog2()).div_ceil(8)
 }
 
-/// Two small elements, the coefficients of each key element but the constant, and the dropped groups.
-pub fn keygen(set: Set, dropped_groups: u64) -> u64 {
+/// Two small elements, the coefficients of each key element but the constant, the dropped groups and the dropped
+/// elements.
+pub fn keygen(set: Set, dropped_groups: u64, dropped_elements: u64) -> u64 {
     let coefficients = (monomials(set.dx) - 1) * u64::from(set.n);
     let fixed = 2 * small(set) + qlen(set) * coefficients;
-    fixed + qlen(set) * dropped_groups
+    fixed + qlen(set) * dropped_groups + small(set) * dropped_elements
 }
 
 /// The coefficients of r, the small elements of e, and the dropped groups.

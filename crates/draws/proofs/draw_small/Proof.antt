@@ -4,6 +4,7 @@ use native.Mathlib.Omega.{arith}
 use mathlib.Core.Path.{_≡_}
 use borrow.Author.Needs.{needs}
 use Rattle.definitions.specs.Parameters.{smallLength}
+use Rattle.definitions.specs.Draws.{smallDrawn}
 use Rattle.parameters.proofs.Bounds.{smallBits-within}
 use Rattle.parameters.specs.Answers.{setFrom}
 use Rattle.draws.proofs.draw_small.Statement.{statement}
@@ -13,6 +14,7 @@ unpack-requires : tie.Need-unpack-requires
 unpack-requires c κs = rw (c .before .bits .ensures) (smallBits-within _ .least, smallBits-within _ .most)
 
 returns : tie.Need-returns
+unfolding smallDrawn
 returns c =
     let s : tie.Start = search needs in
     let measured : tie.After-small-length = search needs in

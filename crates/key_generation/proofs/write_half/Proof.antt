@@ -4,7 +4,7 @@ use Prim.Native.Nat.{_+_}
 use native.Mathlib.Omega.{arith}
 use Rattle.definitions.proofs.Parameters.{accepted-set}
 use Rattle.parameters.specs.Answers.{setFrom}
-use Rattle.key_generation.proofs.Parts.{borrowed-slice}
+use Rattle.key_draws.proofs.Parts.{borrowed-slice}
 use Rattle.key_generation.proofs.Words.{small-packs, half-packed}
 use Rattle.key_generation.proofs.write_half.Statement.{statement}
 use Rattle.key_generation.proofs.write_half.Tie as tie

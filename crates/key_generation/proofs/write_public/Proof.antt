@@ -14,9 +14,10 @@ use Rattle.definitions.specs.Calls.{elementsFit, decodedElements}
 use Rattle.definitions.proofs.Parameters.{Accepted, accepted-set, modulus-least, key-degree-most}
 use Rattle.definitions.proofs.Octets.{AllBelow, coefficientsFit-below}
 use Rattle.parameters.specs.Answers.{setFrom}
-use Rattle.key_generation.specs.Keys.{termsEnd, wordsX, wordsY, wordsTerms}
+use Rattle.key_draws.specs.Keys.{termsEnd, wordsX, wordsY, wordsTerms}
 use Rattle.key_generation.proofs.Constant.{terms-fit, constant-octets}
-use Rattle.key_generation.proofs.Words.{TermsLent, set-sizes, termsEnd-room, terms-cleared, half-at, half-ring}
+use Rattle.key_draws.proofs.Words.{termsEnd-room}
+use Rattle.key_generation.proofs.Words.{TermsLent, set-sizes, terms-cleared, half-at, half-ring}
 use Rattle.key_generation.proofs.write_public.Statement.{statement}
 use Rattle.key_generation.proofs.write_public.Tie as tie
 

@@ -6,7 +6,7 @@ use mathlib.Core.Path.{_∙_}
 use borrow.Author.Needs.{needs}
 use Rattle.definitions.specs.Parameters.{smallLength}
 use Rattle.parameters.specs.Answers.{setFrom}
-use Rattle.key_generation.proofs.Parts.{follows-twice}
+use Rattle.key_draws.proofs.Parts.{follows-twice}
 use Rattle.key_generation.proofs.write_secret.Statement.{statement}
 use Rattle.key_generation.proofs.write_secret.Tie as tie
 

@@ -36,7 +36,8 @@ pub fn keygen(options: &Options) -> Done {
     let keys = set.keygen_from(random).map_err(|error| Failure::refused(name, error))?;
     files::write_secret(secret_path, keys.secret_key.as_ref())?;
     files::write_octets(public_path, keys.public_key.as_ref())?;
-    say_used(options, &set, keys.used);
+    let elements = counted(keys.used.dropped_elements, "element");
+    say_used(options, &set, keys.used, &format!(" and {elements} of {}", counted(set.small_len(), "octet")));
     Ok(())
 }
 
@@ -66,7 +67,7 @@ pub fn encrypt(options: &Options) -> Done {
     let encrypted = PublicKey::encrypt_from(&public_key, &message, random);
     let encrypted = encrypted.map_err(|error| Failure::refused(name, error))?;
     files::write_octets(out(options), encrypted.ciphertext.as_ref())?;
-    say_used(options, &set, encrypted.used);
+    say_used(options, &set, encrypted.used, "");
     Ok(())
 }
 
@@ -79,13 +80,13 @@ pub fn add(options: &Options) -> Done {
         return Err(Failure::usage("name two ciphertexts or more; see --help"));
     }
     files::one_standard(&paths)?;
-    // All are judged before the first refusal is told, so that the lowest number is.
+    // All are judged before a refusal is told, so that the first in the order of refusals is.
     let mut ciphertexts = Vec::new();
     let mut refused: Option<Refused> = None;
     for path in paths {
         match given::<Ciphertext>(&set, path, set.ciphertext_len())? {
             Ok(ciphertext) => ciphertexts.push(ciphertext),
-            Err(another) => refused = Some(refused.map_or(another.clone(), |one| one.lower(another))),
+            Err(another) => refused = Some(refused.map_or(another.clone(), |one| one.first(another))),
         }
     }
     if let Some(refused) = refused {
@@ -108,7 +109,7 @@ pub fn decrypt(options: &Options) -> Done {
     let secret_key = given::<SecretKey>(&set, secret_path, set.secret_key_len())?;
     let ciphertext = given::<Ciphertext>(&set, path, set.ciphertext_len())?;
     let (secret_key, ciphertext) = both(secret_key, ciphertext)?;
-    let message = secret_key.decrypt(&ciphertext).map_err(|error| Failure::refused(path.display(), error))?;
+    let message = secret_key.decrypt(&ciphertext).map_err(|error| with_secret_key(secret_path, path, error))?;
     if !options.flag("--counts") {
         return files::write_octets(out(options), message.as_ref());
     }
@@ -126,7 +127,7 @@ pub fn is_zero(options: &Options) -> Done {
     let secret_key = given::<SecretKey>(&set, secret_path, set.secret_key_len())?;
     let public_key = given::<PublicKey>(&set, public_path, set.public_key_len())?;
     let (secret_key, public_key) = both(secret_key, public_key)?;
-    let zero = secret_key.is_zero_of(&public_key).map_err(|error| Failure::refused(public_path.display(), error))?;
+    let zero = secret_key.is_zero_of(&public_key).map_err(|error| with_secret_key(secret_path, public_path, error))?;
     files::print(if zero { "yes\n" } else { "no\n" })
 }
 
@@ -138,7 +139,8 @@ pub fn limits(options: &Options) -> Done {
         0 => "none: a set for blank fields".to_owned(),
         count => format!("{count} in a message, each 0 to {}", set.l() - 1),
     };
-    let uses = |fixed| format!("{fixed} random octets, and {} for each group dropped", set.coefficient_len());
+    let for_each_group = format!("random octets, and {} for each group", set.coefficient_len());
+    let for_each_element = format!("and {} for each element", set.small_len());
     let rows: [(&str, &dyn Display); 12] = [
         ("set", &set),
         ("bound", &set.bound()),
@@ -150,8 +152,8 @@ pub fn limits(options: &Options) -> Done {
         ("ciphertext octets", &set.ciphertext_len()),
         ("ring element octets", &set.element_len()),
         ("small element octets", &set.small_len()),
-        ("keygen uses", &uses(set.keygen_fixed_octets())),
-        ("encrypt uses", &uses(set.encryption_fixed_octets())),
+        ("keygen uses", &format!("{} {for_each_group} {for_each_element} dropped", set.keygen_fixed_octets())),
+        ("encrypt uses", &format!("{} {for_each_group} dropped", set.encryption_fixed_octets())),
     ];
     files::print(&rows.iter().map(|(name, value)| format!("{name:<20} {value}\n")).collect::<String>())
 }
@@ -260,9 +262,9 @@ struct Refused {
 }
 
 impl Refused {
-    /// The one with the lower number, as one call of the library would refuse both.
-    fn lower(self, other: Refused) -> Refused {
-        if other.error.number() < self.error.number() {
+    /// The one that is first in the order of refusals, as one call of the library would refuse both.
+    fn first(self, other: Refused) -> Refused {
+        if other.error.precedes(self.error) {
             other
         } else {
             self
@@ -312,11 +314,18 @@ fn blank(set: &Parameters) -> Result<Message, Refused> {
         .map_err(|error| Refused { what: format!("--blank goes out under the set \"{}\"", set.blank()), error })
 }
 
-/// Both, or the refusal with the lower number.
+/// The refusal of a call with a secret key and the octets of another file: the key's file is named where it is the key
+/// that is refused.
+fn with_secret_key(secret_path: &Path, path: &Path, error: Error) -> Failure {
+    let what = if error == Error::TopCoefficient { secret_path } else { path };
+    Failure::refused(what.display(), error)
+}
+
+/// Both, or the refusal that is first in the order.
 fn both<A, B>(a: Result<A, Refused>, b: Result<B, Refused>) -> Result<(A, B), Refused> {
     match (a, b) {
         (Ok(a), Ok(b)) => Ok((a, b)),
-        (Err(a), Err(b)) => Err(a.lower(b)),
+        (Err(a), Err(b)) => Err(a.first(b)),
         (Err(refused), Ok(_)) | (Ok(_), Err(refused)) => Err(refused),
     }
 }
@@ -332,13 +341,14 @@ fn random(options: &Options) -> Result<(Box<dyn Read>, String), Failure> {
     Ok((Box::new(system), SYSTEM_RANDOM.to_owned()))
 }
 
-/// Where random octets came from a file of the person's, says how many were used, and how many groups among them were
-/// dropped.
-fn say_used(options: &Options, set: &Parameters, used: RandomUse) {
+/// Where random octets came from a file of the person's, says how many were used, and how many groups among them, and
+/// what else, were dropped.
+fn say_used(options: &Options, set: &Parameters, used: RandomUse, and: &str) {
     if options.value("--random").is_some() {
         let groups = counted(used.dropped_groups, "group");
         let each = counted(set.coefficient_len(), "octet");
-        let _ = writeln!(io::stderr(), "giophantus: {} random octets used, {groups} of {each} dropped", used.octets);
+        let _ =
+            writeln!(io::stderr(), "giophantus: {} random octets used, {groups} of {each}{and} dropped", used.octets);
     }
 }
 

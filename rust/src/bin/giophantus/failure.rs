@@ -26,6 +26,7 @@ impl Failure {
     pub fn refused(what: impl Display, error: Error) -> Self {
         let status = match error {
             Error::RandomSource(_) => IO,
+            Error::Unknown(_) => SOFTWARE,
             _ => error.number().and_then(|number| u8::try_from(number).ok()).unwrap_or(SOFTWARE),
         };
         Failure { status, line: Some(format!("{what}: {error}; {}", error.advice())) }
@@ -65,5 +66,21 @@ impl Failure {
             let _ = writeln!(io::stderr(), "giophantus: {line}");
         }
         ExitCode::from(self.status)
+    }
+}
+
+#[cfg(test)]
+mod tests {
+    use super::*;
+
+    #[test]
+    fn the_status_is_the_number_of_a_refusal_that_is_known() {
+        let status = |error| u32::from(Failure::refused("it", error).status);
+        for refusal in Error::REFUSALS {
+            assert_eq!(Some(status(refusal)), refusal.number());
+        }
+        for number in [12, 64, 300] {
+            assert_eq!(status(Error::Unknown(number)), 70);
+        }
     }
 }

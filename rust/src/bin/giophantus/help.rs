@@ -19,14 +19,20 @@ l q n dX dr mlen: --set \"16 2147483647 4 1 1 16\".
 
 FILE - is standard input or standard output. Files hold the octets alone and not their set.
 
-Exit status: 0, or the number of the refusal:
-   1 l isn't 2, 4, 8 or 16               7 a non-zero unused bit
-   2 n is outside 2 to 4096              8 a coefficient is q or more, or a count l or more
-   3 dX or dr isn't 1 or 2               9 the random octets end too early
-   4 q is too large, or not above B     10 a decrypted coefficient past mlen isn't zero
-   5 mlen is above n x b, or no         11 --set isn't six numbers with one space between
-     multiple of b
+Exit status: 0, or the number of the refusal; where several apply, the one that stands first here:
+  11 --set isn't six numbers with one space between
+   1 l isn't 2, 4, 8 or 16
+   2 n is outside 2 to 4096
+   3 dX or dr isn't 1 or 2
+   4 q is too large, or not above B
+   5 mlen is above n x b, or no multiple of b
    6 a wrong length
+   7 a non-zero unused bit
+   8 a coefficient is q or more, or a count l or more
+  14 an element of the secret key has a zero coefficient of t^(n - 1)
+   9 the random octets end too early
+  10 a decrypted coefficient past mlen isn't zero
+Statuses that are no refusals:
   64 a wrong command line, 65 text that isn't numbers, 70 the library gave an unknown number, 73 a key file
   is there already, 74 a file can't be read or written.
 ";
@@ -40,15 +46,18 @@ usage: giophantus keygen --set SET --secret-key FILE --public-key FILE [--random
   --secret-key FILE   where the secret key goes; only its owner may read it
   --public-key FILE   where the public key goes
   --random FILE       the random octets; without it they come from the system (/dev/urandom). It is said
-                      how many were used, from the front, and how many groups among them were dropped:
-                      use them for nothing else
+                      how many were used, from the front, and how many groups and elements among them
+                      were dropped: use them for nothing else
   --force             replace key files that are there already
 
-A coefficient is drawn from a group of octets. Where its number, modulo 2 to the bit length of q, is q or
-more, the group is dropped, which is no fault, and the next is taken. `giophantus limits` says how many
-octets are used where no group is dropped, and how many more for each that is.
+First the two elements of the secret key are drawn. One whose coefficient of t^(n - 1) is zero, one in l,
+is dropped whole, and the next octets are taken. Then each coefficient of the public key is drawn from a
+group of octets. Where its number, modulo 2 to the bit length of q, is q or more, the group is dropped and
+the next is taken. Neither is a fault. `giophantus limits` says how many octets are used where nothing is
+dropped, and how many more for each group and each element that is.
 
-Refusals: 11, 1 to 5 for the set; 9 where the random octets end too early.
+Refusals: 11, 1 to 5 for the set; 9 where the random octets end too early, or where some 4 MiB of them
+aren't enough: zeros alone, say, are dropped without end.
 ";
 
 pub const ENCRYPT: &str = "\
@@ -100,8 +109,9 @@ usage: giophantus decrypt --set SET --secret-key FILE [--counts] [--out FILE] [F
   --out FILE          where the message goes; without it to standard output
   FILE                the ciphertext; without it from standard input
 
-Refusals: 11, 1 to 5 for the set; 6, 7 or 8 for the secret key or the ciphertext; 10 where a coefficient
-past mlen isn't zero: a wrong key, a wrong mlen, damage, or a sum past the headroom.
+Refusals: 11, 1 to 5 for the set; 6, 7 or 8 for the secret key or the ciphertext; 14 for a secret key with
+an element whose coefficient of t^(n - 1) is zero; 10 where a coefficient past mlen isn't zero: a wrong key,
+a wrong mlen, damage, or a sum past the headroom.
 ";
 
 pub const IS_ZERO: &str = "\
@@ -113,7 +123,8 @@ usage: giophantus is-zero --set SET --secret-key FILE --public-key FILE
   --secret-key FILE   the secret key
   --public-key FILE   the public key
 
-It prints yes or no; the exit status is 0 for both. Refusals: 11, 1 to 5 for the set; 6, 7 or 8 for a key.
+It prints yes or no; the exit status is 0 for both. Refusals: 11, 1 to 5 for the set; 6, 7 or 8 for a key;
+14 for a secret key with an element whose coefficient of t^(n - 1) is zero.
 ";
 
 pub const LIMITS: &str = "\
@@ -125,7 +136,8 @@ usage: giophantus limits --set SET
 
 The bound B is the most that one fresh ciphertext takes of q; the headroom is the largest s with
 s x B < q, the number of ciphertexts that may be added. The last two lines say how many random octets
-are used where no group is dropped, and how many more for each that is. Refusals: 11, 1 to 5.
+are used where nothing is dropped, and how many more for each group that is, and by keygen for each
+element. Refusals: 11, 1 to 5.
 ";
 
 pub const MULTIPLY_ADD: &str = "\
@@ -157,5 +169,6 @@ usage: giophantus convert --set SET --kind KIND --to words|octets [--out FILE] [
   FILE          what is converted; without it from standard input
 
 Refusals: 11, 1 to 5 for the set; 6 for a wrong length; 7 for a non-zero unused bit; 8 for a coefficient
-of q or more, or l or more where a small one is expected.
+of q or more, or l or more where a small one is expected. A secret key that decrypt would refuse with 14 is
+converted.
 ";

@@ -27,8 +27,12 @@ fn calls() -> impl Iterator<Item = (&'static str, u32)> {
 /// Both directions on accepted numbers: each gives back what the other was given.
 fn there_and_back(run: &mut Run, set: Set, kind: Kind) {
     let words = inputs::below(kind.limit(set), kind.words(set), &mut run.prng);
-    let octets = kind.octets_of(set, &words);
-    let (number, got) = to_octets(run, set, kind, &words, octets.len());
+    converts(run, set, kind, &words);
+}
+
+fn converts(run: &mut Run, set: Set, kind: Kind, words: &[u32]) {
+    let octets = kind.octets_of(set, words);
+    let (number, got) = to_octets(run, set, kind, words, octets.len());
     run.expect(number == 0 && got == octets, set, "words to octets");
     let (number, got) = from_octets(run, set, kind, &octets, words.len());
     run.expect(number == 0 && got == words, set, "octets to words");
@@ -115,6 +119,18 @@ fn unused_bits(run: &mut Run, set: Set, kind: Kind) {
     }
 }
 
+/// A secret key's top coefficients may be zero here, with all others l - 1 or 0.
+fn zero_tops(run: &mut Run, set: Set) {
+    let (kind, n) = (Kind::SecretKey, set.places());
+    for other in [0, set.l - 1] {
+        for tops in [[0, other], [other, 0], [0, 0]] {
+            let mut words = vec![other; kind.words(set)];
+            [words[n - 1], words[2 * n - 1]] = tops;
+            converts(run, set, kind, &words);
+        }
+    }
+}
+
 /// Each buffer one too short, one too long, and half as long.
 fn wrong_lengths(run: &mut Run, set: Set, kind: Kind) {
     let near = |length: usize| [length - 1, length + 1, length / 2];
@@ -193,6 +209,7 @@ fn one_set(run: &mut Run, set: Set) {
         wrong_lengths(run, set, kind);
         refusals(run, set, kind, if set.n <= 64 { 20 } else { 4 });
     }
+    zero_tops(run, set);
 }
 
 /// Worked case 7: coefficient 1458 of a key is accepted, 1459 is refusal 8.

@@ -5,26 +5,29 @@
 
 use std::fmt::Write;
 use std::path::Path;
-use std::{env, fs, process};
+use std::{env, fs, mem, process};
 
+use differential::cases::{
+    begun_with, A, DROPPED_ELEMENTS, DROPPED_GROUP, ELEMENTS, GIVEN_SECRETS, KEY_RANDOM, RANDOM,
+};
 use differential::compare::{
     self, DecryptLengths, EncryptLengths, Encrypted, KeygenLengths, Keys, Kind, KINDS,
 };
-use differential::inputs;
+use differential::inputs::{self, of_full_degree, top, with_top};
 use differential::run::Run;
 use differential::sets::MOST_Q;
 use differential::sums::{
-    all_but_one, meeting, mixed_summands, powers_of_t, totals, turned_back, Elements, Parts,
+    all_but_one, meeting, mixed_summands, packed, powers_of_t, totals, turned_back, Elements, Parts,
 };
+use reference::draw::Draws;
 use reference::monomials::{count, position};
 use reference::octets::{numbers_from_octets, numbers_to_octets, pack};
+use reference::ring::{negative, value, Polynomial};
 use reference::set::{bit_length, bound, set};
 use reference::Set;
 
 const SEED: u64 = 0x4B41_5453;
 
-/// Document 01's set A.
-const A: Set = set(4, 1459, 2, 1, 1, 4);
 /// A set with unused bits in every packed element and in the message.
 const PADDED: Set = set(8, 1_048_573, 9, 1, 1, 21);
 
@@ -80,6 +83,8 @@ struct Answers {
     run: Run,
     text: String,
     count: usize,
+    /// The sets with which a secret key had a zero top coefficient.
+    zero_tops: Vec<Set>,
 }
 
 type Field = (&'static str, String);
@@ -91,7 +96,22 @@ impl Answers {
             run: Run::new(SEED),
             text: format!("# Giophantus, known answers: {name}\n"),
             count: 0,
+            zero_tops: Vec::new(),
         }
+    }
+
+    /// Makes a note where one of these elements of a secret key has a zero top coefficient.
+    fn note_tops(&mut self, set: Set, elements: &[u8]) {
+        let mut elements = elements.chunks(set.small_octets());
+        let zero = elements.any(|element| top(set, element) == 0);
+        if zero && !self.zero_tops.contains(&set) {
+            self.zero_tops.push(set);
+        }
+    }
+
+    /// The sets that were noted since the last time.
+    fn noted(&mut self) -> Vec<Set> {
+        mem::take(&mut self.zero_tops)
     }
 
     /// One record: the call, the set, what is given, the answer, and at success what is written.
@@ -153,6 +173,7 @@ impl Answers {
             ("public_key", hex(&keys.public_key)),
             ("used", keys.used.to_string()),
             ("dropped_groups", keys.dropped_groups.to_string()),
+            ("dropped_elements", keys.dropped_elements.to_string()),
         ];
         self.record("keygen", set, &given, keys.number, &written);
         keys
@@ -346,45 +367,129 @@ fn limits(directory: &Path) {
     file.write(directory);
 }
 
-/// The random octets of document 01's cases 2 and 3.
-const KEY_RANDOM: [u8; 10] = [9, 4, 5, 0, 7, 0, 0x64, 0, 1, 0];
-const RANDOM: [u8; 18] = [1, 0, 0, 0, 0, 0, 0, 0, 0, 0, 1, 0, 1, 0, 8, 0x0F, 0, 9];
+/// Where secret keys come from. Inputs from before document 02's Q-3 stay in the files: there a top coefficient may be
+/// zero. With a set where one is, the records are made anew, at the end of the file.
+#[derive(Clone, Copy)]
+enum Secrets {
+    BeforeQ3,
+    Now,
+}
+
+impl Secrets {
+    /// Exactly the random octets that keygen uses.
+    fn random(self, file: &mut Answers, set: Set) -> Vec<u8> {
+        match self {
+            Secrets::BeforeQ3 => {
+                let [x, y, coefficients] = inputs::keygen_parts(set, &mut file.run.prng);
+                let secret = [x, y].concat();
+                file.note_tops(set, &secret);
+                [secret, coefficients].concat()
+            }
+            Secrets::Now => inputs::keygen_random(set, &mut file.run.prng),
+        }
+    }
+
+    /// The keys of these random octets, not recorded.
+    fn keys_from(self, file: &mut Answers, set: Set, random: &[u8]) -> Keys {
+        let made = compare::keygen(&mut file.run, set, random, KeygenLengths::of(set));
+        match self {
+            Secrets::BeforeQ3 if (made.number, made.dropped_elements) != (0, 0) => {
+                let keys = keys_before_q3(set, random);
+                file.note_tops(set, &keys.secret_key);
+                keys
+            }
+            _ => made,
+        }
+    }
+
+    fn keys(self, file: &mut Answers, set: Set) -> Keys {
+        let random = self.random(file, set);
+        self.keys_from(file, set, &random)
+    }
+
+    /// Any secret key.
+    fn any(self, file: &mut Answers, set: Set) -> Vec<u8> {
+        let prng = &mut file.run.prng;
+        let any = [inputs::small(set, prng), inputs::small(set, prng)];
+        self.of(file, set, any)
+    }
+
+    /// The secret key of these two elements.
+    fn of(self, file: &mut Answers, set: Set, elements: [Vec<u8>; 2]) -> Vec<u8> {
+        match self {
+            Secrets::BeforeQ3 => {
+                file.note_tops(set, &elements.concat());
+                elements.concat()
+            }
+            Secrets::Now => elements.map(|one| of_full_degree(set, &one)).concat(),
+        }
+    }
+}
+
+/// What keygen made of these octets when it dropped no elements.
+fn keys_before_q3(set: Set, random: &[u8]) -> Keys {
+    let mut draws = Draws::new(random);
+    let [x, y] = [(); 2].map(|()| draws.small(set).expect("enough octets"));
+    let elements = (1..count(set.dx)).map(|_| draws.element(set).expect("enough octets"));
+    let mut words = elements.collect::<Vec<_>>().concat();
+    let zeros = vec![0; set.places()];
+    let key = Polynomial::from_words(set.dx, set.places(), &[&words[..], &zeros].concat());
+    words.extend(negative(set.q, &value(set.q, &key, &x, &y)));
+    Keys {
+        number: 0,
+        secret_key: packed(set, &[x, y]),
+        public_key: numbers_to_octets(set.qlen(), &words),
+        used: draws.used(),
+        dropped_groups: draws.dropped_groups(),
+        dropped_elements: 0,
+    }
+}
+
+/// Random octets that are exact, longer, one short, and end with a dropped group.
+fn keygens_of(file: &mut Answers, secrets: Secrets, set: Set) {
+    let lengths = KeygenLengths::of(set);
+    let random = secrets.random(file, set);
+    file.keygen(set, &random, lengths);
+    let longer = [random.clone(), file.run.prng.octets(3)].concat();
+    file.keygen(set, &longer, lengths);
+    file.keygen(set, &random[..random.len() - 1], lengths);
+    let start = random.len() - set.qlen();
+    let dropped = inputs::dropped_group(set, &mut file.run.prng);
+    file.keygen(set, &[&random[..start], &dropped].concat(), lengths);
+}
+
+/// Each length is one less and one more.
+fn keygens_of_wrong_lengths(file: &mut Answers, set: Set) {
+    let right = KeygenLengths::of(set);
+    let random = Secrets::BeforeQ3.random(file, set);
+    for by in [-1, 1] {
+        for which in 0..3 {
+            let mut lengths = right;
+            let one = match which {
+                0 => &mut lengths.secret_key,
+                1 => &mut lengths.public_key,
+                _ => &mut lengths.work,
+            };
+            *one = one.saturating_add_signed(by);
+            file.keygen(set, &random, lengths);
+        }
+    }
+}
 
 fn keygens(directory: &Path) {
     let mut file = Answers::new("keygen");
     file.keygen(A, &KEY_RANDOM, KeygenLengths::of(A));
     file.keygen(A, &KEY_RANDOM[..9], KeygenLengths::of(A));
     for set in SMALL {
-        let lengths = KeygenLengths::of(set);
-        let random = inputs::keygen_random(set, &mut file.run.prng);
-        file.keygen(set, &random, lengths);
-        let longer = [random.clone(), file.run.prng.octets(3)].concat();
-        file.keygen(set, &longer, lengths);
-        file.keygen(set, &random[..random.len() - 1], lengths);
-        // The octets end with a dropped group.
-        let start = random.len() - set.qlen();
-        let dropped = inputs::dropped_group(set, &mut file.run.prng);
-        file.keygen(set, &[&random[..start], &dropped].concat(), lengths);
+        keygens_of(&mut file, Secrets::BeforeQ3, set);
     }
+    let again = file.noted();
     file.keygen(A, &[], KeygenLengths::of(A));
     for set in five_refusals() {
         file.keygen(set, &KEY_RANDOM, KeygenLengths::of(A));
     }
     for set in [A, PADDED] {
-        let right = KeygenLengths::of(set);
-        let random = inputs::keygen_random(set, &mut file.run.prng);
-        for by in [-1, 1] {
-            for which in 0..3 {
-                let mut lengths = right;
-                let one = match which {
-                    0 => &mut lengths.secret_key,
-                    1 => &mut lengths.public_key,
-                    _ => &mut lengths.work,
-                };
-                *one = one.saturating_add_signed(by);
-                file.keygen(set, &random, lengths);
-            }
-        }
+        keygens_of_wrong_lengths(&mut file, set);
     }
     // 6 before 9, 5 before 6.
     let lengths = KeygenLengths {
@@ -394,13 +499,10 @@ fn keygens(directory: &Path) {
     };
     file.keygen(A, &[], lengths);
     file.keygen(Set { mlen: 3, ..A }, &[], lengths);
+    for set in again {
+        keygens_of(&mut file, Secrets::Now, set);
+    }
     file.write(directory);
-}
-
-/// Keys made by the library, not recorded.
-fn keys_of(file: &mut Answers, set: Set) -> Keys {
-    let random = inputs::keygen_random(set, &mut file.run.prng);
-    compare::keygen(&mut file.run, set, &random, KeygenLengths::of(set))
 }
 
 /// A coefficient of q in place of the first one; in place of the last one a number whose low bits, as
@@ -432,60 +534,78 @@ fn wrong_lengths(octets: &[u8]) -> [Vec<u8>; 2] {
     ]
 }
 
+/// A made key, other secret keys, a key of zeros, and values that are zero but for one place.
+fn zero_tests_of(file: &mut Answers, secrets: Secrets, set: Set) {
+    let keys = secrets.keys(file, set);
+    let other = secrets.any(file, set);
+    let zeros = vec![0; set.public_key_octets()];
+    let work = set.work_words();
+    file.is_zero(set, &keys.secret_key, &keys.public_key, work);
+    file.is_zero(set, &other, &keys.public_key, work);
+    file.is_zero(set, &other, &zeros, work);
+    // A value that is zero but for its first place, and but for its last.
+    for place in [
+        set.public_key_words() - set.places(),
+        set.public_key_words() - 1,
+    ] {
+        let mut words = numbers_from_octets(set.qlen(), &keys.public_key);
+        words[place] = (words[place] + 1) % set.q;
+        let public_key = numbers_to_octets(set.qlen(), &words);
+        file.is_zero(set, &keys.secret_key, &public_key, work);
+    }
+}
+
+/// The refusals 6, 7 and 8.
+fn refused_zero_tests(file: &mut Answers, secrets: Secrets, set: Set) {
+    let Keys {
+        secret_key,
+        public_key,
+        ..
+    } = secrets.keys(file, set);
+    let (half, work) = (set.small_octets(), set.work_words());
+    for wrong in wrong_lengths(&secret_key) {
+        file.is_zero(set, &wrong, &public_key, work);
+    }
+    for wrong in wrong_lengths(&public_key) {
+        file.is_zero(set, &secret_key, &wrong, work);
+    }
+    file.is_zero(set, &secret_key, &public_key, work - 1);
+    file.is_zero(set, &secret_key, &public_key, work + 1);
+    let padded = [
+        with_top_bit(&secret_key, half - 1),
+        with_top_bit(&secret_key, 2 * half - 1),
+    ];
+    for wrong in &padded {
+        file.is_zero(set, wrong, &public_key, work);
+    }
+    for last in [false, true] {
+        let wrong = with_q(set, &public_key, last);
+        file.is_zero(set, &secret_key, &wrong, work);
+        // 7 before 8, 6 before 7.
+        file.is_zero(set, &padded[1], &wrong, work);
+        file.is_zero(set, &padded[1], &wrong, 0);
+    }
+}
+
 fn zero_tests(directory: &Path) {
     let mut file = Answers::new("is_zero");
     for set in SMALL {
-        let keys = keys_of(&mut file, set);
-        let other = inputs::secret_key(set, &mut file.run.prng);
-        let zeros = vec![0; set.public_key_octets()];
-        let work = set.work_words();
-        file.is_zero(set, &keys.secret_key, &keys.public_key, work);
-        file.is_zero(set, &other, &keys.public_key, work);
-        file.is_zero(set, &other, &zeros, work);
-        // A value that is zero but for its first place, and but for its last.
-        for place in [
-            set.public_key_words() - set.places(),
-            set.public_key_words() - 1,
-        ] {
-            let mut words = numbers_from_octets(set.qlen(), &keys.public_key);
-            words[place] = (words[place] + 1) % set.q;
-            let public_key = numbers_to_octets(set.qlen(), &words);
-            file.is_zero(set, &keys.secret_key, &public_key, work);
-        }
+        zero_tests_of(&mut file, Secrets::BeforeQ3, set);
     }
-    let keys = keys_of(&mut file, A);
+    let again = file.noted();
+    let keys = Secrets::BeforeQ3.keys(&mut file, A);
     for set in five_refusals() {
         file.is_zero(set, &keys.secret_key, &keys.public_key, A.work_words());
     }
     for set in [A, PADDED] {
-        let Keys {
-            secret_key,
-            public_key,
-            ..
-        } = keys_of(&mut file, set);
-        let (half, work) = (set.small_octets(), set.work_words());
-        for wrong in wrong_lengths(&secret_key) {
-            file.is_zero(set, &wrong, &public_key, work);
-        }
-        for wrong in wrong_lengths(&public_key) {
-            file.is_zero(set, &secret_key, &wrong, work);
-        }
-        file.is_zero(set, &secret_key, &public_key, work - 1);
-        file.is_zero(set, &secret_key, &public_key, work + 1);
-        let padded = [
-            with_top_bit(&secret_key, half - 1),
-            with_top_bit(&secret_key, 2 * half - 1),
-        ];
-        for wrong in &padded {
-            file.is_zero(set, wrong, &public_key, work);
-        }
-        for last in [false, true] {
-            let wrong = with_q(set, &public_key, last);
-            file.is_zero(set, &secret_key, &wrong, work);
-            // 7 before 8, 6 before 7.
-            file.is_zero(set, &padded[1], &wrong, work);
-            file.is_zero(set, &padded[1], &wrong, 0);
-        }
+        refused_zero_tests(&mut file, Secrets::BeforeQ3, set);
+    }
+    let refused_again = file.noted();
+    for set in again {
+        zero_tests_of(&mut file, Secrets::Now, set);
+    }
+    for set in refused_again {
+        refused_zero_tests(&mut file, Secrets::Now, set);
     }
     file.write(directory);
 }
@@ -499,11 +619,11 @@ fn encryptions(directory: &Path) {
     let mut random = RANDOM;
     random[1] = 8;
     file.encrypt(A, &key, &[0x0E], &random, right);
-    let random = [[0xB3, 0x05].as_slice(), &RANDOM].concat();
+    let random = [&DROPPED_GROUP[..], &RANDOM].concat();
     file.encrypt(A, &key, &[0x0E], &random, right);
     file.encrypt(A, &key, &[0x0E], &RANDOM[..17], right);
     for set in SMALL {
-        let keys = keys_of(&mut file, set);
+        let keys = Secrets::BeforeQ3.keys(&mut file, set);
         let lengths = EncryptLengths::of(set);
         let message = inputs::message(set, &mut file.run.prng);
         let (random, for_r) = inputs::encrypt_random(set, &mut file.run.prng);
@@ -518,7 +638,7 @@ fn encryptions(directory: &Path) {
         file.encrypt(set, &key, &[0x0E], &RANDOM, right);
     }
     for set in [A, PADDED] {
-        let key = keys_of(&mut file, set).public_key;
+        let key = Secrets::BeforeQ3.keys(&mut file, set).public_key;
         let right = EncryptLengths::of(set);
         let message = inputs::message(set, &mut file.run.prng);
         let (random, _) = inputs::encrypt_random(set, &mut file.run.prng);
@@ -566,7 +686,7 @@ fn ciphertext_of(file: &mut Answers, set: Set, keys: &Keys) -> Vec<u8> {
 fn additions(directory: &Path) {
     let mut file = Answers::new("add");
     for set in SMALL {
-        let keys = keys_of(&mut file, set);
+        let keys = Secrets::BeforeQ3.keys(&mut file, set);
         let a = ciphertext_of(&mut file, set, &keys);
         let b = ciphertext_of(&mut file, set, &keys);
         file.add(set, &a, &b, a.len());
@@ -604,29 +724,30 @@ fn additions(directory: &Path) {
     file.write(directory);
 }
 
-fn decryptions(directory: &Path) {
-    let mut file = Answers::new("decrypt");
-    for set in SMALL {
-        let keys = keys_of(&mut file, set);
-        let lengths = DecryptLengths::of(set);
-        let a = ciphertext_of(&mut file, set, &keys);
-        file.decrypt(set, &keys.secret_key, &a, lengths);
-        let (_, sum) = compare::double(&mut file.run, set, &a, a.len());
-        file.decrypt(set, &keys.secret_key, &sum, lengths);
-        // Any coefficients, any secret key: 10 unless the message is full.
-        let any = inputs::ciphertext(set, &mut file.run.prng);
-        let secret_key = inputs::secret_key(set, &mut file.run.prng);
-        file.decrypt(set, &secret_key, &any, lengths);
-        // Only the constant, each place q - 1.
-        let constant = numbers_to_octets(set.qlen(), &vec![set.q - 1; set.places()]);
-        let mut top = vec![0; a.len() - constant.len()];
-        top.extend(constant);
-        let whole = set.whole();
-        file.decrypt(whole, &secret_key, &top, DecryptLengths::of(whole));
-    }
-    // A message coefficient at the last kept place, and at each place past mlen.
+/// Ciphertexts, sums, any coefficients, and coefficients of q - 1.
+fn decryptions_of(file: &mut Answers, secrets: Secrets, set: Set) {
+    let keys = secrets.keys(file, set);
+    let lengths = DecryptLengths::of(set);
+    let a = ciphertext_of(file, set, &keys);
+    file.decrypt(set, &keys.secret_key, &a, lengths);
+    let (_, sum) = compare::double(&mut file.run, set, &a, a.len());
+    file.decrypt(set, &keys.secret_key, &sum, lengths);
+    // Any coefficients, any secret key: 10 unless the message is full.
+    let any = inputs::ciphertext(set, &mut file.run.prng);
+    let secret_key = secrets.any(file, set);
+    file.decrypt(set, &secret_key, &any, lengths);
+    // Only the constant, each place q - 1.
+    let constant = numbers_to_octets(set.qlen(), &vec![set.q - 1; set.places()]);
+    let mut top = vec![0; a.len() - constant.len()];
+    top.extend(constant);
+    let whole = set.whole();
+    file.decrypt(whole, &secret_key, &top, DecryptLengths::of(whole));
+}
+
+/// A message coefficient at the last kept place, and at each place past mlen.
+fn tails(file: &mut Answers) {
     let whole = PADDED.whole();
-    let keys = keys_of(&mut file, whole);
+    let keys = Secrets::BeforeQ3.keys(file, whole);
     for place in 6..9 {
         let mut m = vec![0; 9];
         m[place] = 4;
@@ -637,42 +758,63 @@ fn decryptions(directory: &Path) {
         let lengths = DecryptLengths::of(PADDED);
         file.decrypt(PADDED, &keys.secret_key, &made.ciphertext, lengths);
     }
+}
+
+/// The refusals 6, 7 and 8.
+fn refused_decryptions(file: &mut Answers, secrets: Secrets, set: Set) {
+    let keys = secrets.keys(file, set);
+    let secret_key = keys.secret_key.clone();
+    let ciphertext = ciphertext_of(file, set, &keys);
+    let right = DecryptLengths::of(set);
+    for wrong in wrong_lengths(&secret_key) {
+        file.decrypt(set, &wrong, &ciphertext, right);
+    }
+    for wrong in wrong_lengths(&ciphertext) {
+        file.decrypt(set, &secret_key, &wrong, right);
+    }
+    for by in [-1, 1] {
+        let message = right.message.saturating_add_signed(by);
+        let work = right.work.saturating_add_signed(by);
+        let lengths = DecryptLengths { message, ..right };
+        file.decrypt(set, &secret_key, &ciphertext, lengths);
+        let lengths = DecryptLengths { work, ..right };
+        file.decrypt(set, &secret_key, &ciphertext, lengths);
+    }
+    let half = set.small_octets();
+    for at in [half - 1, 2 * half - 1] {
+        let padded = with_top_bit(&secret_key, at);
+        file.decrypt(set, &padded, &ciphertext, right);
+        // 7 before 8, 6 before 7.
+        let wrong = with_q(set, &ciphertext, true);
+        file.decrypt(set, &padded, &wrong, right);
+        let lengths = DecryptLengths { work: 0, ..right };
+        file.decrypt(set, &padded, &wrong, lengths);
+    }
+    for last in [false, true] {
+        let wrong = with_q(set, &ciphertext, last);
+        file.decrypt(set, &secret_key, &wrong, right);
+    }
+}
+
+fn decryptions(directory: &Path) {
+    let mut file = Answers::new("decrypt");
+    for set in SMALL {
+        decryptions_of(&mut file, Secrets::BeforeQ3, set);
+    }
+    let again = file.noted();
+    tails(&mut file);
     for set in five_refusals() {
         file.decrypt(set, &[9, 4], &[0; 24], DecryptLengths::of(A));
     }
     for set in [A, PADDED] {
-        let keys = keys_of(&mut file, set);
-        let secret_key = keys.secret_key.clone();
-        let ciphertext = ciphertext_of(&mut file, set, &keys);
-        let right = DecryptLengths::of(set);
-        for wrong in wrong_lengths(&secret_key) {
-            file.decrypt(set, &wrong, &ciphertext, right);
-        }
-        for wrong in wrong_lengths(&ciphertext) {
-            file.decrypt(set, &secret_key, &wrong, right);
-        }
-        for by in [-1, 1] {
-            let message = right.message.saturating_add_signed(by);
-            let work = right.work.saturating_add_signed(by);
-            let lengths = DecryptLengths { message, ..right };
-            file.decrypt(set, &secret_key, &ciphertext, lengths);
-            let lengths = DecryptLengths { work, ..right };
-            file.decrypt(set, &secret_key, &ciphertext, lengths);
-        }
-        let half = set.small_octets();
-        for at in [half - 1, 2 * half - 1] {
-            let padded = with_top_bit(&secret_key, at);
-            file.decrypt(set, &padded, &ciphertext, right);
-            // 7 before 8, 6 before 7.
-            let wrong = with_q(set, &ciphertext, true);
-            file.decrypt(set, &padded, &wrong, right);
-            let lengths = DecryptLengths { work: 0, ..right };
-            file.decrypt(set, &padded, &wrong, lengths);
-        }
-        for last in [false, true] {
-            let wrong = with_q(set, &ciphertext, last);
-            file.decrypt(set, &secret_key, &wrong, right);
-        }
+        refused_decryptions(&mut file, Secrets::BeforeQ3, set);
+    }
+    let refused_again = file.noted();
+    for set in again {
+        decryptions_of(&mut file, Secrets::Now, set);
+    }
+    for set in refused_again {
+        refused_decryptions(&mut file, Secrets::Now, set);
     }
     file.write(directory);
 }
@@ -689,38 +831,59 @@ fn sums_in_additions(file: &mut Answers, set: Set) {
     file.double(set, &octets(&half), set.ciphertext_octets());
 }
 
-/// The secret key (t^(n - 1), t), and a polynomial whose value there is the sum of the three lists, place
-/// by place.
-fn three_meet(set: Set, degree: u32, [x, y, constant]: [Vec<u32>; 3]) -> [Vec<u8>; 2] {
+/// The secret key of these powers of t, and a polynomial whose value there is the sum of the three lists, place by
+/// place.
+fn three_meet(
+    set: Set,
+    degree: u32,
+    powers: [usize; 2],
+    [x, y, constant]: [Vec<u32>; 3],
+) -> [Vec<u8>; 2] {
     let elements = vec![
         (position(degree, 1, 0), x),
         (position(degree, 0, 1), y),
         (count(degree) - 1, constant),
     ];
-    meeting(set, degree, elements, [set.places() - 1, 1].map(Some))
+    meeting(set, degree, elements, powers)
 }
 
 /// The four sums by turns, as w, and in a key with a constant that brings each to 0.
-fn sums_at_all_places(file: &mut Answers, set: Set) {
+fn sums_at_all_places(file: &mut Answers, set: Set, powers: [usize; 2]) {
     for some in totals(set.q).chunks(set.places().min(4)) {
         let [x, y] = mixed_summands(set.q, some, set.places(), &mut file.run.prng);
         let zeros = vec![0; set.places()];
-        let [secret_key, ciphertext] = three_meet(set, set.d(), [x.clone(), y.clone(), zeros]);
+        let lists = [x.clone(), y.clone(), zeros];
+        let [secret_key, ciphertext] = three_meet(set, set.d(), powers, lists);
         file.decrypt(set, &secret_key, &ciphertext, DecryptLengths::of(set));
         let q = u64::from(set.q);
         let lacks = some.iter().map(|total| (2 * q - total) % q);
         let constant = lacks.map(|x| x as u32).cycle().take(set.places());
-        let [secret_key, public_key] = three_meet(set, set.dx, [x, y, constant.collect()]);
+        let lists = [x, y, constant.collect()];
+        let [secret_key, public_key] = three_meet(set, set.dx, powers, lists);
         file.is_zero(set, &secret_key, &public_key, set.work_words());
     }
 }
 
 /// A key in which each place has a sum of q, but for one that has the total.
-fn sum_at_one_place(file: &mut Answers, set: Set, total: u64, place: usize) {
+fn sum_at_one_place(
+    file: &mut Answers,
+    set: Set,
+    powers: [usize; 2],
+    (total, place): (u64, usize),
+) {
     let [x, y] = all_but_one(set, total, place, &mut file.run.prng);
     let zeros = vec![0; set.places()];
-    let [secret_key, public_key] = three_meet(set, set.dx, [x, y, zeros]);
+    let [secret_key, public_key] = three_meet(set, set.dx, powers, [x, y, zeros]);
     file.is_zero(set, &secret_key, &public_key, set.work_words());
+}
+
+/// Sums that three meet in, with a secret key of these powers of t.
+fn sums_at_secret_key(file: &mut Answers, set: Set, powers: [usize; 2]) {
+    sums_at_all_places(file, set, powers);
+    let (n, [below, _, above, largest]) = (set.places(), totals(set.q));
+    for (total, place) in [(below, 0), (above, n / 2), (largest, n - 1)] {
+        sum_at_one_place(file, set, powers, (total, place));
+    }
 }
 
 /// What encrypt makes of X and r, and of e and m at the constant alone.
@@ -759,18 +922,18 @@ fn sums_in_encryptions(file: &mut Answers, set: Set) {
 
 fn sums(directory: &Path) {
     let mut file = Answers::new("sums");
+    let large = set(2, 65_535, 81, 1, 1, 81);
+    // From before document 02's Q-3: from n 3 on u_y has a zero top coefficient.
     for set in SUMS {
         sums_in_additions(&mut file, set);
-        sums_at_all_places(&mut file, set);
-        let (n, [below, _, above, largest]) = (set.places(), totals(set.q));
-        for (total, place) in [(below, 0), (above, n / 2), (largest, n - 1)] {
-            sum_at_one_place(&mut file, set, total, place);
-        }
+        sums_at_secret_key(&mut file, set, [set.places() - 1, 1]);
         sums_in_encryptions(&mut file, set);
     }
-    let large = set(2, 65_535, 81, 1, 1, 81);
-    sums_at_all_places(&mut file, large);
-    sum_at_one_place(&mut file, large, 65_536, 80);
+    sums_at_all_places(&mut file, large, [80, 1]);
+    sum_at_one_place(&mut file, large, [80, 1], (65_536, 80));
+    for set in SUMS.into_iter().chain([large]).filter(|set| set.n > 2) {
+        sums_at_secret_key(&mut file, set, [set.places() - 1; 2]);
+    }
     file.write(directory);
 }
 
@@ -982,12 +1145,13 @@ fn ended_after_dropped(file: &mut Answers, set: Set, elements: usize) -> Vec<Vec
 }
 
 /// Any octets, cut after the last one that is used; dropped groups; octets that end after one.
-fn dropped_in_keygen(file: &mut Answers, set: Set) {
+fn dropped_in_keygen(file: &mut Answers, secrets: Secrets, set: Set) {
     let (elements, lengths) = (count(set.dx) - 1, KeygenLengths::of(set));
     let any = file.run.prng.octets(8 * set.public_key_octets() + 64);
-    let used = compare::keygen(&mut file.run, set, &any, lengths).used;
+    let used = secrets.keys_from(file, set, &any).used;
     file.keygen(set, &any[..used as usize], lengths);
-    let secret = small_draws(file, set, 2);
+    let drawn_elements = [(); 2].map(|()| small_draws(file, set, 1));
+    let secret = secrets.of(file, set, drawn_elements);
     for before in places_of_dropped(set, elements) {
         let random = [secret.clone(), drawn(file, set, &before)].concat();
         file.keygen(set, &random, lengths);
@@ -1021,16 +1185,133 @@ fn draws(directory: &Path) {
     let mut file = Answers::new("draws");
     // Document 01's cases 2 and 3 with 1459, which is dropped: after the secret key's octets; in front and before the
     // third pair.
-    let group = [0xB3, 0x05];
     let (secret, others) = KEY_RANDOM.split_at(2);
-    let random = [secret, &group, others].concat();
+    let random = [secret, &DROPPED_GROUP, others].concat();
     let keys = file.keygen(A, &random, KeygenLengths::of(A));
     let (two_pairs, others) = RANDOM.split_at(4);
-    let random = [&group, two_pairs, &group, others].concat();
+    let random = [&DROPPED_GROUP, two_pairs, &DROPPED_GROUP, others].concat();
     file.encrypt(A, &keys.public_key, &[0x0E], &random, EncryptLengths::of(A));
     for set in DRAWS {
-        dropped_in_keygen(&mut file, set);
+        dropped_in_keygen(&mut file, Secrets::BeforeQ3, set);
         dropped_in_encrypt(&mut file, set);
+    }
+    for set in file.noted() {
+        dropped_in_keygen(&mut file, Secrets::Now, set);
+    }
+    file.write(directory);
+}
+
+/// A drawn element with a zero top coefficient: all zero, all other bits 1, or any.
+fn dropped_elements(file: &mut Answers, set: Set) -> [Vec<u8>; 3] {
+    let any = file.run.prng.octets(set.small_octets());
+    let elements = [vec![0; any.len()], vec![0xFF; any.len()], any];
+    elements.map(|element| with_top(set, &element, 0))
+}
+
+/// Elements are dropped before u_x, before u_y, and before both; the octets end after one, and in the middle of the
+/// element after it; forty zeros.
+fn degrees_in_keygen(file: &mut Answers, set: Set) {
+    let lengths = KeygenLengths::of(set);
+    let [x, y, coefficients] = inputs::keygen_parts(set, &mut file.run.prng);
+    let [x, y] = [x, y].map(|element| of_full_degree(set, &element));
+    let [zeros, ones, any] = dropped_elements(file, set);
+    for before in [
+        [zeros.clone(), Vec::new()],
+        [Vec::new(), ones.clone()],
+        [
+            [&any[..], &ones].concat(),
+            [&zeros[..], &any, &ones].concat(),
+        ],
+    ] {
+        let [before_x, before_y] = &before;
+        let random = [before_x, &x, before_y, &y, &coefficients].map(|octets| &octets[..]);
+        file.keygen(set, &random.concat(), lengths);
+    }
+    for begun in [&ones, &[&x[..], &any].concat()] {
+        let begun: &[u8] = begun;
+        for octets in [0, y.len() - 1] {
+            file.keygen(set, &[begun, &y[..octets]].concat(), lengths);
+        }
+    }
+    file.keygen(set, &[0; 40], lengths);
+}
+
+/// Noise with zero top coefficients.
+fn degrees_in_encrypt(file: &mut Answers, set: Set) {
+    let key = inputs::public_key(set, &mut file.run.prng);
+    let message = inputs::message(set, &mut file.run.prng);
+    let r = drawn(file, set, &vec![0; count(set.dr) * set.places()]);
+    let kinds = dropped_elements(file, set);
+    let noise = kinds.iter().cycle().take(count(set.d())).flatten();
+    let random: Vec<u8> = r.iter().chain(noise).copied().collect();
+    file.encrypt(set, &key, &message, &random, EncryptLengths::of(set));
+}
+
+/// Both calls with a secret key: w is 1 at each place, which is 10 past mlen.
+fn given_secret(file: &mut Answers, set: Set, secret_key: &[u8], public_key: &[u8], wrong: bool) {
+    let start = set.ciphertext_words() - set.places();
+    let words = [vec![0; start], vec![1; set.places()]].concat();
+    let ciphertext = numbers_to_octets(set.qlen(), &words);
+    let [ciphertext, public_key] = [&ciphertext, public_key].map(|octets| match wrong {
+        true => with_q(set, octets, true),
+        false => octets.to_vec(),
+    });
+    file.decrypt(set, secret_key, &ciphertext, DecryptLengths::of(set));
+    file.is_zero(set, secret_key, &public_key, set.work_words());
+}
+
+/// Secret keys with zero top coefficients in one element, the other and both, with all other coefficients l - 1 and 0,
+/// and a top coefficient of 1 alone; with a zero top coefficient also a coefficient that is q, an unused bit, both, and
+/// a wrong length.
+fn degrees_in_secrets(file: &mut Answers, set: Set) {
+    let key = inputs::public_key(set, &mut file.run.prng);
+    let [full, zeros] = [set.l - 1, 0].map(|x| packed(set, &[vec![x; set.places()]]));
+    let [low, single] = [with_top(set, &full, 0), with_top(set, &zeros, 1)];
+    for elements in [
+        [&low, &full],
+        [&full, &low],
+        [&low, &low],
+        [&zeros, &zeros],
+        [&single, &single],
+    ] {
+        let secret_key = elements.map(|element| &element[..]).concat();
+        given_secret(file, set, &secret_key, &key, false);
+    }
+    let secret_key = [&full[..], &low].concat();
+    given_secret(file, set, &secret_key, &key, true);
+    if !(set.n * set.b()).is_multiple_of(8) {
+        let padded = with_top_bit(&secret_key, full.len() - 1);
+        given_secret(file, set, &padded, &key, false);
+        given_secret(file, set, &padded, &key, true);
+    }
+    given_secret(file, set, &secret_key[1..], &key, true);
+}
+
+fn degrees(directory: &Path) {
+    let mut file = Answers::new("degrees");
+    for (random, _) in DROPPED_ELEMENTS {
+        file.keygen(A, random, KeygenLengths::of(A));
+    }
+    file.keygen(A, &[0; 40], KeygenLengths::of(A));
+    // More elements than 8 bits can count.
+    let random = [&[0; 300][..], &KEY_RANDOM].concat();
+    file.keygen(A, &random, KeygenLengths::of(A));
+    for given in GIVEN_SECRETS {
+        let set = Set {
+            mlen: given.mlen,
+            ..A
+        };
+        let [ciphertext, public_key] = given.polynomials();
+        file.decrypt(set, &given.octets, &ciphertext, DecryptLengths::of(set));
+        file.is_zero(set, &given.octets, &public_key, set.work_words());
+    }
+    for (set, element, _) in ELEMENTS {
+        file.keygen(set, &begun_with(element), KeygenLengths::of(set));
+    }
+    for set in SMALL {
+        degrees_in_keygen(&mut file, set);
+        degrees_in_encrypt(&mut file, set);
+        degrees_in_secrets(&mut file, set);
     }
     file.write(directory);
 }
@@ -1043,9 +1324,9 @@ fn large(directory: &Path, name: &'static str, set: Set) {
     let lengths = KeygenLengths::of(set);
     file.keygen(Set { q: 1000, ..set }, &[], lengths);
     file.keygen(set, &[0xFF; 100], lengths);
-    let random = file.run.prng.octets(4 * set.public_key_octets());
-    let used = compare::keygen(&mut file.run, set, &random, lengths).used;
-    let keys = file.keygen(set, &random[..used as usize], lengths);
+    let key_random = file.run.prng.octets(4 * set.public_key_octets());
+    let keys = Secrets::BeforeQ3.keys_from(&mut file, set, &key_random);
+    file.keygen(set, &key_random[..keys.used as usize], lengths);
     file.is_zero(set, &keys.secret_key, &keys.public_key, set.work_words());
 
     let kept = (set.mlen / set.b()) as usize;
@@ -1071,7 +1352,19 @@ fn large(directory: &Path, name: &'static str, set: Set) {
             file.words_to_octets(set, kind, &words, octets.len());
         }
     }
+    for set in file.noted() {
+        large_again(&mut file, set, &key_random);
+    }
     file.write(directory);
+}
+
+/// The calls with a secret key, which has elements of full degree.
+fn large_again(file: &mut Answers, set: Set, random: &[u8]) {
+    let keys = Secrets::Now.keys_from(file, set, random);
+    file.keygen(set, &random[..keys.used as usize], KeygenLengths::of(set));
+    file.is_zero(set, &keys.secret_key, &keys.public_key, set.work_words());
+    let ciphertext = ciphertext_of(file, set, &keys);
+    file.decrypt(set, &keys.secret_key, &ciphertext, DecryptLengths::of(set));
 }
 
 fn main() {
@@ -1093,6 +1386,7 @@ fn main() {
     sums(directory);
     products(directory);
     draws(directory);
+    degrees(directory);
     for (name, set) in LARGE {
         large(directory, name, set);
     }

@@ -282,26 +282,17 @@ fn spoiled(run: &mut Run, set: Set, way: Way, [length, word]: [u32; 2]) -> Vec<u
     element
 }
 
-/// The lowest refusal of these kinds: 0 to 4 are the set's, 5 to 7 the lengths, 8 to 10 the words.
-fn lowest(way: Way, kinds: &[u32]) -> u32 {
-    match kinds.iter().find(|&&kind| way.has(kind)) {
-        None => 0,
-        Some(kind @ 0..=4) => kind + 1,
-        Some(5..=7) => 6,
-        Some(_) => 8,
-    }
-}
-
-/// Each refusal, and several at once: the lowest is given.
+/// Each refusal, and several at once. Kinds 0 to 4 are the set's refusals, 5 to 7 the lengths, 8 to 10 the words.
 fn refusals(run: &mut Run, set: Set, more: usize) {
     for way in ways(11, more, &mut run.prng) {
         let [a, b, c] = [[5, 8], [6, 9], [7, 10]].map(|kinds| spoiled(run, set, way, kinds));
         let wrong = way.set(set, &mut run.prng);
         let (two, _) = multiply_add(run, wrong, &a, &b, &c);
         let (one, _) = square_add(run, wrong, &a, &c);
-        let right = two == lowest(way, &[0, 1, 2, 3, 4, 5, 6, 7, 8, 9, 10])
-            && one == lowest(way, &[0, 1, 2, 3, 4, 5, 7, 8, 10]);
-        run.expect(right, wrong, "the lowest refusal");
+        // In one buffer b isn't looked at.
+        let right = two == way.refusal(&[1, 2, 3, 4, 5, 6, 6, 6, 8, 8, 8])
+            && one == way.refusal(&[1, 2, 3, 4, 5, 6, 0, 6, 8, 0, 8]);
+        run.expect(right, wrong, "the first refusal that applies");
     }
 }
 

@@ -6,6 +6,7 @@ use std::collections::BTreeMap;
 use differential::compare::{
     add, decrypt, double, encrypt, is_zero, DecryptLengths, EncryptLengths,
 };
+use differential::inputs;
 use differential::run::{run_group, Run};
 use differential::sets::sets_of;
 use differential::sums::{
@@ -21,6 +22,7 @@ use reference::Set;
 type Made = BTreeMap<(&'static str, u32, u32, u64), Vec<bool>>;
 
 /// A polynomial, a secret key and the polynomial's value at it.
+#[derive(Clone)]
 struct Meeting {
     polynomial: Vec<u8>,
     secret_key: Vec<u8>,
@@ -99,28 +101,10 @@ impl Trial<'_> {
 
 /// Values at a secret key.
 impl Trial<'_> {
-    /// Secret keys of powers of t: 1 and 1, any two, and 0 for a variable that neither monomial has.
-    fn secrets(&mut self, pairs: [(u32, u32); 2]) -> Vec<[Option<usize>; 2]> {
-        let [(i, j), (k, m)] = pairs;
-        let [x, y] = [self.power(), self.power()].map(Some);
-        let mut list = vec![[Some(0); 2], [x, y]];
-        if j + m == 0 {
-            list.push([x, None]);
-        }
-        if i + k == 0 {
-            list.push([None, y]);
-        }
-        list
-    }
-
-    /// These elements meet place by place.
-    fn met(
-        &self,
-        degree: u32,
-        elements: Elements,
-        powers: [Option<usize>; 2],
-        value: Vec<u32>,
-    ) -> Meeting {
+    /// These elements meet place by place. Both elements of the secret key are t^(n - 1), the only power of t that may
+    /// stand there alone.
+    fn met(&self, degree: u32, elements: Elements, value: Vec<u32>) -> Meeting {
+        let powers = [self.set.places() - 1; 2];
         let [secret_key, polynomial] = meeting(self.set, degree, elements, powers);
         Meeting {
             polynomial,
@@ -129,34 +113,43 @@ impl Trial<'_> {
         }
     }
 
+    /// The same with any element of a secret key for a variable that neither monomial has, where there is one.
+    fn with_any(&mut self, mut one: Meeting, pairs: [(u32, u32); 2]) -> Option<Meeting> {
+        let [(i, j), (k, m)] = pairs;
+        let variable = [i + k, j + m].into_iter().position(|power| power == 0)?;
+        let any = inputs::secret_element(self.set, &mut self.run.prng);
+        one.secret_key[variable * any.len()..][..any.len()].copy_from_slice(&any);
+        Some(one)
+    }
+
     /// Any two elements meet at every place.
     fn two_elements(&mut self, way: &'static str, degree: u32) -> Vec<Meeting> {
         let mut found = Vec::new();
         let list = monomials(degree);
         for second in 0..list.len() {
             for first in 0..second {
-                for powers in self.secrets([list[first], list[second]]) {
-                    let [a, b] = self.summands(self.set.places());
-                    let value = self.sums(way, &a, &b);
-                    let elements = vec![(first, a), (second, b)];
-                    found.push(self.met(degree, elements, powers, value));
-                }
+                let [a, b] = self.summands(self.set.places());
+                let value = self.sums(way, &a, &b);
+                let one = self.met(degree, vec![(first, a), (second, b)], value);
+                found.extend(self.with_any(one.clone(), [list[first], list[second]]));
+                found.push(one);
             }
         }
         found
     }
 
-    /// Neighbouring places of one element meet inside its product with t^k + t^(k + 1).
+    /// Neighbouring places of one element meet inside its product with t^(n - 2) + t^(n - 1), or t^(n - 1) + 1.
     fn one_element(&mut self, way: &'static str, degree: u32) -> Vec<Meeting> {
         let mut found = Vec::new();
+        let top = self.set.places() - 1;
         for (at, (i, j)) in monomials(degree).into_iter().enumerate() {
             for turn in 0..5 {
-                let (k, other) = (self.power(), self.power());
+                let k = top - self.run.prng.below(2) as usize;
                 let neighbours = powers_of_t(self.set, &[k, k + 1]);
-                let single = powers_of_t(self.set, &[other]);
+                let single = powers_of_t(self.set, &[top]);
                 let (small, more) = match (i, j) {
-                    (1, j) => ([neighbours, single], j as usize * other),
-                    (i, 1) => ([single, neighbours], i as usize * other),
+                    (1, j) => ([neighbours, single], j as usize * top),
+                    (i, 1) => ([single, neighbours], i as usize * top),
                     _ => continue,
                 };
                 let chain = self.chain(turn);
@@ -199,9 +192,8 @@ impl Trial<'_> {
                 let value = self.sums(way, &a, &b);
                 let negative = self.negative(&value);
                 let zeros = vec![0; negative.len()];
-                let powers = [self.power(), self.power()].map(Some);
                 let elements = vec![(first, a), (second, b), (third, negative)];
-                found.push(self.met(degree, elements, powers, zeros));
+                found.push(self.met(degree, elements, zeros));
             }
         }
         found
@@ -226,10 +218,9 @@ impl Trial<'_> {
         for place in 0..places {
             let [a, b] = all_but_one(set, self.total, place, &mut self.run.prng);
             let value = self.sums(way, &a, &b);
-            let powers = [self.power(), self.power()].map(Some);
             let [first, second] = [place, place + 1].map(|at| at % count(degree));
             let elements = vec![(first, a), (second, b)];
-            found.push(self.met(degree, elements, powers, value));
+            found.push(self.met(degree, elements, value));
         }
         found
     }

@@ -120,10 +120,10 @@ fn large_rings(run: &mut Run) {
 fn main() {
     let numbers: [(&str, &[u32]); 5] = [
         ("keygen", &[0, 1, 2, 3, 4, 5, 6, 9]),
-        ("is_zero", &[0, 1, 2, 3, 4, 5, 6, 7, 8]),
+        ("is_zero", &[0, 1, 2, 3, 4, 5, 6, 7, 8, 14]),
         ("encrypt", &[0, 1, 2, 3, 4, 5, 6, 7, 8, 9]),
         ("add", &[0, 1, 2, 3, 4, 5, 6, 8]),
-        ("decrypt", &[0, 1, 2, 3, 4, 5, 6, 7, 8, 10]),
+        ("decrypt", &[0, 1, 2, 3, 4, 5, 6, 7, 8, 14, 10]),
     ];
     run_group("calls", &numbers, |run| {
         worked::all(run);

@@ -1,5 +1,5 @@
-//! Every refusal of each call at its boundary, alone, in pairs and several at once. Kinds 0 to 4
-//! are the set's refusals 1 to 5.
+//! Every refusal of each call at its boundary, alone, in pairs and several at once: the first that
+//! applies is given. Kinds 0 to 4 are the set's refusals 1 to 5.
 
 use differential::compare::{
     decrypt, encrypt, is_zero, keygen, DecryptLengths, EncryptLengths, KeygenLengths,
@@ -19,6 +19,23 @@ pub fn all(run: &mut Run, set: Set, more: usize) {
     decryptions(run, set, more);
 }
 
+/// 7 where a packed element or message with this many used bits has unused ones.
+fn padding(used_bits: usize) -> u32 {
+    match used_bits % 8 {
+        0 => 0,
+        _ => 7,
+    }
+}
+
+/// The unused bits of an element.
+fn element_padding(set: Set) -> u32 {
+    padding(set.places() * set.b() as usize)
+}
+
+fn answers(run: &Run, set: Set, number: u32, wanted: u32) {
+    run.expect(number == wanted, set, "the first refusal that applies");
+}
+
 /// 5 to 7: secret key, public key, work; 8: random octets.
 fn keygens(run: &mut Run, set: Set, more: usize) {
     let random = inputs::keygen_random(set, &mut run.prng);
@@ -33,24 +50,31 @@ fn keygens(run: &mut Run, set: Set, more: usize) {
         let mut random = random.clone();
         way.random(8, &mut random, prng);
         let wrong = way.set(set, prng);
-        keygen(run, wrong, &random, lengths);
+        let made = keygen(run, wrong, &random, lengths);
+        let wanted = way.refusal(&[1, 2, 3, 4, 5, 6, 6, 6, 9]);
+        answers(run, wrong, made.number, wanted);
     }
 }
 
-/// 5 to 7: secret key, public key, work; 8 and 9: padding of each half; 10: a coefficient.
+/// 5 to 7: secret key, public key, work; 8 and 9: padding of each half; 10: a coefficient; 11 and
+/// 12: the top coefficient of each half.
 fn zero_tests(run: &mut Run, set: Set, more: usize) {
     let secret = inputs::secret_key(set, &mut run.prng);
     let public = inputs::public_key(set, &mut run.prng);
-    for way in ways(11, more, &mut run.prng) {
+    let pad = element_padding(set);
+    for way in ways(13, more, &mut run.prng) {
         let prng = &mut run.prng;
         let (mut secret_key, mut public_key) = (secret.clone(), public.clone());
         way.padding(8, set, &mut secret_key, prng);
+        way.top(11, set, &mut secret_key);
         way.coefficient(10, set, &mut public_key, prng);
         way.input(5, &mut secret_key, prng);
         way.input(6, &mut public_key, prng);
         let work = way.length(7, set.work_words(), prng);
         let wrong = way.set(set, prng);
-        is_zero(run, wrong, &secret_key, &public_key, work);
+        let (number, _) = is_zero(run, wrong, &secret_key, &public_key, work);
+        let wanted = way.refusal(&[1, 2, 3, 4, 5, 6, 6, 6, pad, pad, 8, 14, 14]);
+        answers(run, wrong, number, wanted);
     }
 }
 
@@ -77,25 +101,32 @@ fn encryptions(run: &mut Run, set: Set, more: usize) {
             work: way.length(8, right.work, prng),
         };
         let wrong = way.set(set, prng);
-        encrypt(run, wrong, &public_key, &message, &random, lengths);
+        let made = encrypt(run, wrong, &public_key, &message, &random, lengths);
+        let pad = padding(set.mlen as usize);
+        let wanted = way.refusal(&[1, 2, 3, 4, 5, 6, 6, 6, 6, pad, 8, 9]);
+        answers(run, wrong, made.number, wanted);
     }
 }
 
 /// 5 to 8: secret key, ciphertext, message, work; 9 and 10: padding of each half; 11: a
-/// coefficient; 12: a ciphertext that decrypts to something past mlen.
+/// coefficient; 12: a message coefficient of 1, which is 10 past mlen; 13 and 14: the top coefficient
+/// of each half.
 fn decryptions(run: &mut Run, set: Set, more: usize) {
     let secret = inputs::secret_key(set, &mut run.prng);
     let constant = set.ciphertext_octets() - set.element_octets();
-    for way in ways(13, more, &mut run.prng) {
+    let pad = element_padding(set);
+    for way in ways(15, more, &mut run.prng) {
         let prng = &mut run.prng;
         let mut secret_key = secret.clone();
         let mut ciphertext = vec![0; set.ciphertext_octets()];
+        // 1 at one place of the constant.
+        let place = prng.below(u64::from(set.n)) as u32;
+        let tail = if place * set.b() < set.mlen { 0 } else { 10 };
         if way.has(12) {
-            // 1 at one place of the constant.
-            let place = prng.below(u64::from(set.n)) as usize;
-            ciphertext[constant + place * set.qlen()] = 1;
+            ciphertext[constant + place as usize * set.qlen()] = 1;
         }
         way.padding(9, set, &mut secret_key, prng);
+        way.top(13, set, &mut secret_key);
         way.coefficient(11, set, &mut ciphertext, prng);
         way.input(5, &mut secret_key, prng);
         way.input(6, &mut ciphertext, prng);
@@ -105,6 +136,8 @@ fn decryptions(run: &mut Run, set: Set, more: usize) {
             work: way.length(8, right.work, prng),
         };
         let wrong = way.set(set, prng);
-        decrypt(run, wrong, &secret_key, &ciphertext, lengths);
+        let (number, _) = decrypt(run, wrong, &secret_key, &ciphertext, lengths);
+        let wanted = way.refusal(&[1, 2, 3, 4, 5, 6, 6, 6, 6, pad, pad, 8, tail, 14, 14]);
+        answers(run, wrong, number, wanted);
     }
 }

@@ -1,24 +1,13 @@
-//! The worked list of 01, cases 1 to 9, octet by octet, and how many groups are dropped.
+//! The worked list of 01, cases 1 to 9, octet by octet, and how many groups and elements are dropped.
 
+use differential::cases::{
+    A, CIPHERTEXT, DROPPED_GROUP, KEY_RANDOM, PUBLIC_KEY, RANDOM, SECRET_KEY,
+};
 use differential::compare::{
     decrypt, encrypt, is_zero, keygen, DecryptLengths, EncryptLengths, KeygenLengths,
 };
 use differential::run::Run;
-use reference::set::set;
 use reference::Set;
-
-const A: Set = set(4, 1459, 2, 1, 1, 4);
-
-const KEY_RANDOM: [u8; 10] = [0x09, 0x04, 0x05, 0, 0x07, 0, 0x64, 0, 0x01, 0];
-const SECRET_KEY: [u8; 2] = [0x09, 0x04];
-const PUBLIC_KEY: [u8; 12] = [0x05, 0, 0x07, 0, 0x64, 0, 0x01, 0, 0x9F, 0x05, 0x3E, 0x05];
-const RANDOM: [u8; 18] = [
-    0x01, 0, 0, 0, 0, 0, 0, 0, 0, 0, 0x01, 0, 0x01, 0, 0x08, 0x0F, 0, 0x09,
-];
-const CIPHERTEXT: [u8; 24] = [
-    0x09, 0, 0x07, 0, 0x64, 0, 0x01, 0, 0, 0, 0x08, 0, 0xB2, 0x05, 0x4F, 0x05, 0x01, 0, 0x64, 0,
-    0x44, 0x05, 0xAA, 0x05,
-];
 
 pub fn all(run: &mut Run) {
     case_1(run);
@@ -28,9 +17,6 @@ pub fn all(run: &mut Run) {
     case_8(run);
     case_9(run);
 }
-
-/// 1459, which is dropped.
-const DROPPED: [u8; 2] = [0xB3, 0x05];
 
 /// The number, and the octets used and the dropped groups.
 fn try_encrypt(
@@ -59,10 +45,11 @@ fn case_1(run: &mut Run) {
 
 fn cases_2_and_6(run: &mut Run) {
     let (secret, others) = KEY_RANDOM.split_at(2);
-    let dropped = [secret, &DROPPED, others].concat();
-    for (random, wanted) in [(&KEY_RANDOM[..], [10, 0]), (&dropped, [12, 1])] {
+    let dropped = [secret, &DROPPED_GROUP, others].concat();
+    for (random, wanted) in [(&KEY_RANDOM[..], [10, 0, 0]), (&dropped, [12, 1, 0])] {
         let keys = keygen(run, A, random, KeygenLengths::of(A));
-        let right = keys.number == 0 && [keys.used, keys.dropped_groups] == wanted;
+        let told = [keys.used, keys.dropped_groups, keys.dropped_elements];
+        let right = keys.number == 0 && told == wanted;
         run.expect(right, A, "case 2, and with 1459 dropped");
         let right = keys.secret_key == SECRET_KEY && keys.public_key == PUBLIC_KEY;
         run.expect(right, A, "case 2, and with 1459 dropped");
@@ -95,11 +82,11 @@ fn cases_3_to_6(run: &mut Run) {
     random[1] = 0x08;
     let answer = try_encrypt(run, A, &PUBLIC_KEY, &[0x0E], &random);
     run.expect(answer == (0, [18, 0]), A, "case 5, 2049");
-    let random = [&DROPPED[..], &RANDOM].concat();
+    let random = [&DROPPED_GROUP[..], &RANDOM].concat();
     let answer = try_encrypt(run, A, &PUBLIC_KEY, &[0x0E], &random);
     run.expect(answer == (0, [20, 1]), A, "case 5, 1459 dropped");
     let (two_pairs, others) = RANDOM.split_at(4);
-    let random = [&DROPPED, two_pairs, &DROPPED, others].concat();
+    let random = [&DROPPED_GROUP, two_pairs, &DROPPED_GROUP, others].concat();
     let answer = try_encrypt(run, A, &PUBLIC_KEY, &[0x0E], &random);
     run.expect(answer == (0, [22, 2]), A, "case 5, 1459 dropped twice");
 
