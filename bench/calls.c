@@ -1,17 +1,22 @@
 /* The library's calls beside the same calls in C over several rings.  Results are compared before
    anything is timed; entries take turns; each time is the minimum of all rounds.
    With -DLIBRARY_ONLY the library has no peers, addition, whose peers are in copies.c, is among the calls, and
-   multiply_add, which earlier libraries lack, is not.  Libraries of before document 02's Q-1 count no dropped groups, and
-   those of before its Q-3 no dropped elements: their keygen and encrypt are given a last argument or two more than they
-   take.  C itself doesn't define that; where the caller removes the arguments, as on x86-64 and AArch64, they are right all
-   the same and leave the numbers alone.
+   multiply_add, which earlier libraries lack, is not.  With -DSIX_NUMBERS besides, the library is one of before document
+   02's Q-7, whose calls take six numbers in the place of the set and know no edition 2.  Those of before its Q-1 count no
+   dropped groups, and those of before its Q-3 no dropped elements: their keygen and encrypt are given a last argument or
+   two more than they take.  C itself doesn't define that; where the caller removes the arguments, as on x86-64 and
+   AArch64, they are right all the same and leave the numbers alone.
    Usage: calls [TIMES.csv] */
 
 #include <stdio.h>
 #include <stdlib.h>
 #include <string.h>
 
+#ifdef SIX_NUMBERS
+#include "six_numbers.h"
+#else
 #include "giophantus.h"
+#endif
 #include "timing.h"
 
 /* The entries of the tables: the library first, then its peers. */
@@ -36,11 +41,12 @@ static const struct entry {
 };
 #define ENTRIES (sizeof entries / sizeof entries[0])
 
-static const struct set sets[] = {SETS_BY_N, {2, 169894159, 64, 2, 2, 64}};
+static const struct set sets[] = {SETS_BY_N, {2, 169894159, 64, 2, 2, 64, 1}};
 #define SETS (sizeof sets / sizeof sets[0])
 
 /* Arguments of the calls, and what an entry has written. */
-static const struct set *set;
+static struct set chosen;
+static const struct set *const set = &chosen;
 static uint8_t random_octets[4 * MAX_OCTETS];
 static uint8_t secret_key[MAX_N], public_key[MAX_OCTETS], message[MAX_N / 2], ciphertext[MAX_OCTETS];
 static uint32_t words[MAX_ELEMENTS * MAX_N]; /* the ciphertext's */
@@ -120,16 +126,20 @@ static const struct call {
     void (*run)(size_t);
     /* Only encryption has a way to share products. */
     int shares;
+    uint32_t edition;
 } calls[] = {
-    {"keygen", run_keygen, 0},
-    {"is_zero", run_is_zero, 0},
-    {"encrypt", run_encrypt, 1},
-#ifdef LIBRARY_ONLY
-    {"add", run_add, 0},
+    {"keygen", run_keygen, 0, 1},
+#ifndef SIX_NUMBERS
+    {"keygen 2", run_keygen, 0, 2},
 #endif
-    {"decrypt", run_decrypt, 0},
+    {"is_zero", run_is_zero, 0, 1},
+    {"encrypt", run_encrypt, 1, 1},
+#ifdef LIBRARY_ONLY
+    {"add", run_add, 0, 1},
+#endif
+    {"decrypt", run_decrypt, 0, 1},
 #ifndef LIBRARY_ONLY
-    {"multiply_add", run_multiply_add, 0},
+    {"multiply_add", run_multiply_add, 0, 1},
 #endif
 };
 #define ROWS (sizeof calls / sizeof calls[0] * SETS)
@@ -221,11 +231,12 @@ static void for_each_ring(int start)
     }
 }
 
-/* The rows are the calls, and for each call the sets. */
+/* The rows are the calls, and for each call the sets, in the call's edition. */
 static void choose(size_t row)
 {
     call = &calls[row / SETS];
-    set = &sets[row % SETS];
+    chosen = sets[row % SETS];
+    chosen.edition = call->edition;
 }
 
 static void enter(size_t row)
@@ -250,7 +261,7 @@ int main(int argc, char **argv)
     for (row = 0; row < ROWS; row++) {
         choose(row);
         rows[row].call = call->name;
-        rows[row].set = set;
+        rows[row].set = &sets[row % SETS];
         for (i = 0; i < ENTRIES; i++) {
             rows[row].turns[i].name = entries[i].name;
             rows[row].turns[i].left_out = !has_entry(i);

@@ -14,11 +14,11 @@
 /* Every n with four octets a coefficient, then three octets, also at the largest n that has them, and other l. */
 static const struct set sets[] = {
     SETS_BY_N,
-    {2, 8659219, 1201, 1, 1, 1201},
-    {2, 16777213, 1671, 1, 1, 1671},
-    {8, 33768533, 64, 1, 1, 192},
-    {8, 2147483647, 510, 1, 1, 1530},
-    {16, 2147483629, 115, 1, 1, 460},
+    {2, 8659219, 1201, 1, 1, 1201, 1},
+    {2, 16777213, 1671, 1, 1, 1671, 1},
+    {8, 33768533, 64, 1, 1, 192, 1},
+    {8, 2147483647, 510, 1, 1, 1530, 1},
+    {16, 2147483629, 115, 1, 1, 460, 1},
 };
 #define SETS (sizeof sets / sizeof sets[0])
 

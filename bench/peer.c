@@ -220,6 +220,8 @@ uint64_t peer_keygen(const struct ring *r, const struct set *s, const uint8_t *r
     at = draw_secret(s, at, u_y, dropped_elements);
     for (k = 0; k < last; k++)
         at = draw_element(s, at, made[k], dropped_groups);
+    if (s->edition == 2)
+        at = draw_element(s, at, w, dropped_groups);
     memset(made[last], 0, sizeof made[last]);
     value(r, s, s->dx, made, u_x, u_y, w);
     sub_element(s, made[last], w);

@@ -13,17 +13,22 @@
 #define MAX_OCTETS ((size_t)MAX_ELEMENTS * MAX_N * 4)
 
 struct set {
-    uint32_t l, q, n, dx, dr, mlen;
+    uint32_t l, q, n, dx, dr, mlen, edition;
 };
 
-/* The numbers of the set that is called `set`, as the calls of the library take them. */
+/* The set that is called `set`, as the calls of the library take it. */
+#ifdef SIX_NUMBERS
 #define SET set->l, set->q, set->n, set->dx, set->dr, set->mlen
+#else
+#define SET ((giophantus_set){set->l, set->q, set->n, set->dx, set->dr, set->mlen, set->edition})
+#endif
 
 /* A set for each n of the tables. */
-#define SETS_BY_N                                                                                        \
-    {16, 2147483647, 8, 1, 1, 32}, {16, 2147483647, 32, 1, 1, 128}, {4, 467424413, 64, 1, 1, 128},       \
-        {4, 467424413, 256, 1, 1, 512}, {4, 467424413, 601, 1, 1, 1202}, {4, 467424413, 1201, 1, 1, 2402}, \
-        {4, 973190461, 1733, 1, 1, 3466}, {4, 1665292879, 2267, 1, 1, 4534}, {2, 100679693, 4096, 1, 1, 4096}
+#define SETS_BY_N                                                                                              \
+    {16, 2147483647, 8, 1, 1, 32, 1}, {16, 2147483647, 32, 1, 1, 128, 1}, {4, 467424413, 64, 1, 1, 128, 1},    \
+        {4, 467424413, 256, 1, 1, 512, 1}, {4, 467424413, 601, 1, 1, 1202, 1},                                 \
+        {4, 467424413, 1201, 1, 1, 2402, 1}, {4, 973190461, 1733, 1, 1, 3466, 1},                              \
+        {4, 1665292879, 2267, 1, 1, 4534, 1}, {2, 100679693, 4096, 1, 1, 4096, 1}
 
 /* Lengths in octets, monomials and bits of an accepted set. */
 size_t elements(uint32_t degree);

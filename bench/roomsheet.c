@@ -1,4 +1,4 @@
-/* roomsheet: for each line "l q n dX dr mlen" of standard input, print
+/* roomsheet: for each line "l q n dX dr mlen" or "l q n dX dr mlen edition" of standard input, print
    "0 bound headroom" or the refusal number.  gcc -O2 -o roomsheet roomsheet.c */
 
 #include <stdint.h>
@@ -34,17 +34,20 @@ static void put_number(uint32_t x)
         out_buf[out_len++] = digits[--i];
 }
 
-/* Reads six numbers with single spaces between; 0 if the line is malformed. */
-static int parse(const char *p, const char *end, uint32_t set[6])
+/* Reads six or seven numbers with single spaces between, without the seventh as edition 1; 0 if the line is malformed. */
+static int parse(const char *p, const char *end, uint32_t set[7])
 {
     int i;
 
     if (end - p > MAX_LINE)
         return 0;
-    for (i = 0; i < 6; i++) {
+    set[6] = 1;
+    for (i = 0; i < 7; i++) {
         const char *start;
         uint64_t x = 0;
 
+        if (i == 6 && p == end)
+            break;
         if (i > 0) {
             if (p == end || *p != ' ')
                 return 0;
@@ -65,10 +68,10 @@ static int parse(const char *p, const char *end, uint32_t set[6])
 }
 
 /* The refusal number, or 0 with the bound and the headroom. */
-static int limits(const uint32_t set[6], uint32_t *bound, uint32_t *headroom)
+static int limits(const uint32_t set[7], uint32_t *bound, uint32_t *headroom)
 {
     uint32_t l = set[0], q = set[1], n = set[2];
-    uint32_t dx = set[3], dr = set[4], mlen = set[5];
+    uint32_t dx = set[3], dr = set[4], mlen = set[5], edition = set[6];
     uint32_t b, k;
     unsigned __int128 s = 0, power, big;
 
@@ -94,6 +97,8 @@ static int limits(const uint32_t set[6], uint32_t *bound, uint32_t *headroom)
         return 4;
     if (mlen > n * b || mlen % b != 0)
         return 5;
+    if (edition != 1 && edition != 2)
+        return 18;
 
     *bound = (uint32_t)big;
     *headroom = (q - 1) / *bound;
@@ -102,7 +107,7 @@ static int limits(const uint32_t set[6], uint32_t *bound, uint32_t *headroom)
 
 static void answer(const char *line, const char *end)
 {
-    uint32_t set[6], bound, headroom;
+    uint32_t set[7], bound, headroom;
     int refusal = 11;
 
     if (out_len > BLOCK - 32)

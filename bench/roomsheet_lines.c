@@ -1,5 +1,5 @@
-/* Prints lines for roomsheet, the same ones each time: mostly sets near acceptance, some refused, a
-   few malformed.  Usage: roomsheet_lines COUNT */
+/* Prints lines for roomsheet, the same ones each time: mostly sets near acceptance, half of them with their edition, some
+   refused, a few malformed.  Usage: roomsheet_lines COUNT */
 
 #include <stdint.h>
 #include <stdio.h>
@@ -25,6 +25,8 @@ int main(int argc, char **argv)
 {
     static const uint32_t ranges[] = {2, 4, 8, 16, 2, 4, 2, 3};
     static const uint32_t rings[] = {4, 16, 64, 256, 1024, 4096, 4096, 5000};
+    static const char *const editions[16] = {"",   "",   "",   "",   "",   "",   "",   "",
+                                             " 1", " 2", " 1", " 2", " 1", " 2", " 3", " 2 1"};
     long count = argc > 1 ? atol(argv[1]) : 10;
 
     while (count-- > 0) {
@@ -35,7 +37,7 @@ int main(int argc, char **argv)
         if (below(64) == 0)
             printf("%u %u 0%u %u %u\n", l, q, n, 1 + below(2), mlen);
         else
-            printf("%u %u %u %u %u %u\n", l, q, n, 1 + below(2), 1 + below(2), mlen);
+            printf("%u %u %u %u %u %u%s\n", l, q, n, 1 + below(2), 1 + below(2), mlen, editions[below(16)]);
     }
     return fflush(stdout) != 0;
 }

@@ -17,14 +17,14 @@
 
 /* Moduli whose products are added up in one part and in two, and degrees 2 at the largest accepted n. */
 static const struct set sets[] = {
-    {4, 467424413, 64, 1, 1, 128},
-    {4, 2147483647, 64, 1, 1, 128},
-    {4, 467424413, 1201, 1, 1, 2402},
-    {4, 2147483647, 1201, 1, 1, 2402},
-    {2, 100679693, 4096, 1, 1, 4096},
-    {2, 2147483647, 4096, 1, 1, 4096},
-    {2, 169894159, 64, 2, 2, 64},
-    {2, 2147483647, 120, 2, 2, 120},
+    {4, 467424413, 64, 1, 1, 128, 1},
+    {4, 2147483647, 64, 1, 1, 128, 1},
+    {4, 467424413, 1201, 1, 1, 2402, 1},
+    {4, 2147483647, 1201, 1, 1, 2402, 1},
+    {2, 100679693, 4096, 1, 1, 4096, 1},
+    {2, 2147483647, 4096, 1, 1, 4096, 1},
+    {2, 169894159, 64, 2, 2, 64, 1},
+    {2, 2147483647, 120, 2, 2, 120, 1},
 };
 #define SETS (sizeof sets / sizeof sets[0])
 
@@ -55,6 +55,19 @@ static uint32_t keygen(void)
 {
     return giophantus_keygen(SET, random_octets, sizeof random_octets, secret_key, secret_length, public_key,
                              public_length, work, work_length, &used, &dropped_groups, &dropped_elements);
+}
+
+static uint32_t keygen_2(void)
+{
+    const struct set *first = set;
+    struct set second = *set;
+    uint32_t answer;
+
+    second.edition = 2;
+    set = &second;
+    answer = keygen();
+    set = first;
+    return answer;
 }
 
 static uint32_t is_zero(void)
@@ -145,6 +158,7 @@ static const struct call {
     {"limits", limits},
     {"lengths", lengths},
     {"keygen", keygen},
+    {"keygen, edition 2", keygen_2},
     {"is_zero", is_zero},
     {"encrypt", encrypt},
     {"add", add},

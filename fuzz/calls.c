@@ -1,7 +1,7 @@
 /*
  * calls.c: the nineteen calls of the C interface on arguments that libFuzzer chooses. By hand: see docs/FUZZING.md.
  *
- * The octets of an input choose the call, the six numbers, the length and the contents of each buffer; where the input
+ * The octets of an input choose the call, the set, the length and the contents of each buffer; where the input
  * ends, a sequence that it determines goes on. After the call the rules of giophantus.h are held to, and abort() ends the
  * program where one fails:
  *
@@ -10,6 +10,7 @@
  *     work words are untouched up to and including the length test and zero after every other ending
  *     no octet outside a buffer is read or written
  *     the dropped groups and elements are those counted here; the octets used are the fixed part and theirs
+ *     keygen makes the same keys in both editions; what it refuses in one it refuses in the other, but for 9
  *     what an accepted encryption under made keys gives decrypts to the message, and a sum to the total modulo l
  *     each coefficient of a sum is the sum modulo q of those added
  *     each coefficient of a * b + c is the one worked out here a second time; where n is large, one of them
@@ -73,15 +74,9 @@ static uint32_t word(void) {
 
 /* ---- sets ---- */
 
-struct set {
-    uint32_t l, q, n, dx, dr, mlen;
-};
-
-#define SET(s) (s)->l, (s)->q, (s)->n, (s)->dx, (s)->dr, (s)->mlen
-
-/* Accepted sets: each l, degree and length of q, q next to its bound, next to or at a power of two, at its largest and on
+/* Accepted sets without their edition: each l, degree and length of q, q next to its bound, next to or at a power of two, at its largest and on
    both sides of where the library sums 80 products otherwise. */
-static const struct set table[] = {
+static const uint32_t table[][6] = {
     {2, 37, 2, 1, 1, 2},          {2, 251, 2, 1, 1, 1},           {2, 257, 3, 1, 1, 3},
     {4, 1459, 2, 1, 1, 4},        {4, 65521, 2, 1, 1, 4},         {4, 65537, 2, 1, 1, 2},
     {2, 65537, 9, 1, 1, 9},       {2, 16777213, 17, 1, 1, 8},     {2, 16777259, 16, 1, 2, 16},
@@ -104,7 +99,7 @@ static uint32_t bits(uint32_t l) { return l == 2 ? 1 : l == 4 ? 2 : l == 8 ? 3 :
 static uint32_t bytes_of(uint32_t q) { return q < 1u << 8 ? 1 : q < 1u << 16 ? 2 : q < 1u << 24 ? 3 : 4; }
 
 /* The bound, for l at most 16, n at most 4096 and D at most 4: it takes up to 75 bits. */
-static unsigned __int128 bound_of(const struct set *s) {
+static unsigned __int128 bound_of(const giophantus_set *s) {
     unsigned __int128 total = 0, power = s->l - 1;
     for (uint32_t k = 0; k <= s->dx + s->dr; k++) {
         total += (k + 1) * power;
@@ -114,7 +109,7 @@ static unsigned __int128 bound_of(const struct set *s) {
 }
 
 /* The refusal of a set, 0 where it is accepted. */
-static uint32_t refusal_of(const struct set *s) {
+static uint32_t refusal_of(const giophantus_set *s) {
     if (s->l != 2 && s->l != 4 && s->l != 8 && s->l != 16)
         return GIOPHANTUS_RANGE;
     if (s->n < 2 || s->n > LARGEST_N)
@@ -125,31 +120,38 @@ static uint32_t refusal_of(const struct set *s) {
         return GIOPHANTUS_MODULUS;
     if (s->mlen > s->n * bits(s->l) || s->mlen % bits(s->l) != 0)
         return GIOPHANTUS_MESSAGE_SIZE;
+    if (s->edition != 1 && s->edition != 2)
+        return GIOPHANTUS_EDITION;
     return 0;
 }
 
-static uint32_t chosen_from; /* where in the table the set was taken, TABLE where all six were made up */
+static uint32_t chosen_from; /* where in the table the set was taken, TABLE where all of it was made up */
 
-static struct set choose_set(void) {
+/* One of its numbers a little or wholly changed. */
+static void change_one(giophantus_set *s) {
+    uint32_t *one[] = {&s->l, &s->q, &s->n, &s->dx, &s->dr, &s->mlen};
+    uint8_t which = octet();
+    uint32_t *it = which < 216 ? one[which % 6] : &s->edition;
+    switch (octet() % 4) {
+    case 0: *it += octet() % 9 - 4u; break;
+    case 1: *it = octet(); break;
+    case 2: *it = word(); break;
+    default: /* q at its bound */
+        if (s->n <= LARGEST_N)
+            s->q = (uint32_t)bound_of(s) + octet() % 3 - 1;
+    }
+}
+
+static giophantus_set choose_set(void) {
     uint8_t how = octet();
-    struct set s;
     chosen_from = octet() % TABLE;
-    s = table[chosen_from];
+    const uint32_t *from = table[chosen_from];
+    giophantus_set s = {from[0], from[1], from[2], from[3], from[4], from[5], how & 2 ? 2 : 1};
     if (how < 160) { /* as it is, with another length of the message at times */
         if (how & 1)
             s.mlen = octet() % (s.n + 1) * bits(s.l);
-    } else if (how < 240) { /* one of the six a little or wholly changed */
-        uint32_t *one[] = {&s.l, &s.q, &s.n, &s.dx, &s.dr, &s.mlen};
-        uint8_t which = octet();
-        uint32_t *it = one[which % 6];
-        switch (octet() % 4) {
-        case 0: *it += octet() % 9 - 4u; break;
-        case 1: *it = octet(); break;
-        case 2: *it = word(); break;
-        default: /* q at its bound */
-            if (s.n <= LARGEST_N)
-                s.q = (uint32_t)bound_of(&s) + octet() % 3 - 1;
-        }
+    } else if (how < 240) {
+        change_one(&s);
     } else {
         s.l = how & 1 ? 2u << octet() % 4 : word();
         s.q = word() >> octet() % 32;
@@ -157,9 +159,17 @@ static struct set choose_set(void) {
         s.dx = how & 4 ? 1 + octet() % 2 : octet();
         s.dr = how & 8 ? 1 + octet() % 2 : octet();
         s.mlen = word() >> octet() % 32;
+        s.edition = octet() % 4;
         chosen_from = TABLE;
     }
     return s;
+}
+
+/* The same set in the other edition. */
+static giophantus_set other_edition(const giophantus_set *s) {
+    giophantus_set other = *s;
+    other.edition = 3 - s->edition;
+    return other;
 }
 
 /* ---- buffers ---- */
@@ -253,12 +263,28 @@ static void keep(void) {
 
 static int unchanged(const struct buffer *b) { return memcmp(b->at, b->old, b->octets) == 0; }
 
+/* The refusals in the order in which they are tested. */
+static const uint32_t order[] = {
+    GIOPHANTUS_RANGE, GIOPHANTUS_RING, GIOPHANTUS_DEGREE, GIOPHANTUS_MODULUS, GIOPHANTUS_MESSAGE_SIZE,
+    GIOPHANTUS_EDITION, GIOPHANTUS_LENGTH, GIOPHANTUS_PADDING, GIOPHANTUS_COEFFICIENT, GIOPHANTUS_TOP_COEFFICIENT,
+    GIOPHANTUS_RANDOM_EXHAUSTED, GIOPHANTUS_TAIL
+};
+#define ORDER (sizeof order / sizeof *order)
+
+/* The place of a refusal in the order; ORDER where it isn't one. */
+static size_t place(uint32_t number) {
+    size_t i = 0;
+    while (i < ORDER && order[i] != number)
+        i++;
+    return i;
+}
+
 /* Whether a refusal is that of the length test or of one before it. */
-static int untouched(uint32_t number) { return number >= GIOPHANTUS_RANGE && number <= GIOPHANTUS_LENGTH; }
+static int untouched(uint32_t number) { return place(number) <= place(GIOPHANTUS_LENGTH); }
 
 /* The rules that hold after every call. */
 static void settle(uint32_t number) {
-    rule(number <= GIOPHANTUS_TAIL || number == GIOPHANTUS_TOP_COEFFICIENT, "no call gives this number");
+    rule(number == 0 || place(number) < ORDER, "no call gives this number");
     for (size_t i = 0; i < made; i++) {
         struct buffer *b = &buffers[i];
         if (b->kind == INPUT)
@@ -407,7 +433,7 @@ static uint32_t fit_tops(struct buffer *b, uint32_t n, uint32_t width) {
 }
 
 /* Of a secret key and an argument of coefficients below q: padding and coefficients come before top coefficients. */
-static uint32_t fit_secret_and(struct buffer *secret, struct buffer *b, const struct set *s) {
+static uint32_t fit_secret_and(struct buffer *secret, struct buffer *b, const giophantus_set *s) {
     uint32_t width = bits(s->l), refusal = fit_both(secret, s->n * width, b, bytes_of(s->q), s->q);
     uint32_t tops = fit_tops(secret, s->n, width);
     return refusal != 0 ? refusal : tops;
@@ -427,7 +453,7 @@ static const char *const names[] = {
     "ciphertext_to_octets", "round trip"
 };
 
-#define NUMBERS (GIOPHANTUS_TOP_COEFFICIENT + 1)
+#define NUMBERS (GIOPHANTUS_EDITION + 1)
 
 /* What libFuzzer is told of the archive, which has no counters: each answer of each call, by set and by kind of set. */
 #ifndef REPLAY
@@ -437,12 +463,12 @@ static uint8_t by_set[CALLS][NUMBERS][TABLE + 1];
 #ifndef REPLAY
 __attribute__((used, section("__libfuzzer_extra_counters")))
 #endif
-static uint8_t by_kind[CALLS][NUMBERS][4][4][2][2];
+static uint8_t by_kind[CALLS][NUMBERS][4][4][2][2][2];
 
-static void tell(enum call call, uint32_t number, const struct set *s) {
+static void tell(enum call call, uint32_t number, const giophantus_set *s) {
     by_set[call][number][chosen_from] = 1;
     if (refusal_of(s) == 0)
-        by_kind[call][number][bits(s->l) - 1][bytes_of(s->q) - 1][s->dx - 1][s->dr - 1] = 1;
+        by_kind[call][number][bits(s->l) - 1][bytes_of(s->q) - 1][s->dx - 1][s->dr - 1][s->edition - 1] = 1;
 }
 
 /* The coefficient of t^k in a * b modulo q. */
@@ -455,7 +481,7 @@ static uint32_t product_at(const struct buffer *a, const struct buffer *b, uint3
 
 /* c becomes a * b + c, of n words each. The product is worked out at every place, or at one where n is large. Gives the
    number, and in *unfit the refusal of a coefficient. */
-static uint32_t multiply_add(const struct set *s, int accepted, uint32_t n, uint32_t *unfit) {
+static uint32_t multiply_add(const giophantus_set *s, int accepted, uint32_t n, uint32_t *unfit) {
     struct buffer *a = sized(INPUT, n, 4), *b = octet() & 1 ? a : sized(INPUT, n, 4), *c = sized(OUTPUT, n, 4);
     struct buffer *product = buffer(INPUT, 4 * n); /* it isn't passed */
     uint32_t where = n > PRODUCT_N ? octet() % 3 : 0, step = n > PRODUCT_N ? n : 1;
@@ -472,7 +498,7 @@ static uint32_t multiply_add(const struct set *s, int accepted, uint32_t n, uint
             *unfit = GIOPHANTUS_COEFFICIENT;
     }
     keep();
-    uint32_t number = giophantus_multiply_add(SET(s), WORDS(a), WORDS(b), WORDS(c));
+    uint32_t number = giophantus_multiply_add(*s, WORDS(a), WORDS(b), WORDS(c));
     for (uint32_t k = first; fit && number == 0 && k < n; k += step) {
         uint32_t old;
         memcpy(&old, c->old + 4 * k, 4);
@@ -485,18 +511,20 @@ static uint32_t multiply_add(const struct set *s, int accepted, uint32_t n, uint
 /* What a call takes from its random octets: elements of a secret key, draws below q, elements of the noise. */
 struct draws {
     size_t secrets, count, noise;
-    const struct set *s;
+    const giophantus_set *s;
 };
 
-static struct draws keygen_draws(const struct set *s) {
-    return (struct draws){2, (size_t)(places(s->dx) - 1) * s->n, 0, s};
+/* Edition 2 draws the constant too. */
+static struct draws keygen_draws(const giophantus_set *s) {
+    uint32_t elements = s->edition == 2 ? places(s->dx) : places(s->dx) - 1;
+    return (struct draws){2, (size_t)elements * s->n, 0, s};
 }
 
-static struct draws encrypt_draws(const struct set *s) {
+static struct draws encrypt_draws(const giophantus_set *s) {
     return (struct draws){0, (size_t)places(s->dr) * s->n, places(s->dx + s->dr), s};
 }
 
-static size_t small_of(const struct set *s) { return (s->n * bits(s->l) + 7) / 8; }
+static size_t small_of(const giophantus_set *s) { return (s->n * bits(s->l) + 7) / 8; }
 
 /* The octets that are used where nothing is dropped. */
 static size_t fixed_part(const struct draws *d) {
@@ -567,15 +595,58 @@ static void judge_draws(uint32_t number, struct draws d, const struct buffer *ra
     rule(told == want, "the octets used aren't the fixed part and those of dropped groups and elements");
 }
 
-/* Keys, two messages, their ciphertexts, the sum, and back. */
-static void round_trip(const struct set *s, size_t sk, size_t pk, size_t msg, size_t ct) {
+/* What keygen is lent, and what it answered. */
+struct keys {
+    struct buffer *random, *secret, *public, *work, *used, *groups, *elements;
+    uint32_t number;
+};
+
+static uint32_t keygen(giophantus_set s, const struct keys *k) {
+    return giophantus_keygen(s, OCTETS(k->random), OCTETS(k->secret), OCTETS(k->public), WORDS(k->work),
+                             (void *)k->used->at, (void *)k->groups->at, (void *)k->elements->at);
+}
+
+static int same(const struct buffer *a, const struct buffer *b) {
+    return a->octets == b->octets && memcmp(a->at, b->at, a->octets) == 0;
+}
+
+/* keygen again in the other edition, on the same octets and, where it was refused before the draws, on the same
+   buffers. */
+static void keygen_again(const giophantus_set *s, const struct keys *k) {
+    giophantus_set other = other_edition(s);
+    struct keys again = *k;
+    int drawn = !untouched(k->number);
+    if (drawn) {
+        k->secret->kind = k->public->kind = k->used->kind = k->groups->kind = k->elements->kind = INPUT;
+        again.secret = buffer(OUTPUT, k->secret->octets), again.public = buffer(OUTPUT, k->public->octets);
+        again.used = buffer(OUTPUT, 8), again.groups = buffer(OUTPUT, 8), again.elements = buffer(OUTPUT, 8);
+    }
+    keep();
+    again.number = keygen(other, &again);
+    settle(again.number);
+    if (!drawn) {
+        rule(again.number == k->number, "another refusal in the other edition");
+        return;
+    }
+    judge_draws(again.number, keygen_draws(&other), k->random, again.used, again.groups, again.elements);
+    uint32_t first = s->edition == 1 ? k->number : again.number, second = s->edition == 1 ? again.number : k->number;
+    rule(first == 0 || second != 0, "octets for edition 2 aren't enough for edition 1");
+    if (first == 0 && second == 0)
+        rule(same(again.secret, k->secret) && same(again.public, k->public) && same(again.elements, k->elements),
+             "other keys in the other edition");
+    again.secret->kind = again.public->kind = again.used->kind = again.groups->kind = again.elements->kind = INPUT;
+    keep();
+}
+
+/* Keys, two messages, their ciphertexts, the sum, and back, some of it in the other edition. */
+static void round_trip(const giophantus_set *s, size_t sk, size_t pk, size_t msg, size_t ct) {
     uint32_t b = bits(s->l), small = (s->n * b + 7) / 8, qlen = bytes_of(s->q), number;
     struct buffer *random = buffer(INPUT, 4 * (2 * small + pk) + 64);
     struct buffer *secret = buffer(OUTPUT, sk), *public = buffer(OUTPUT, pk);
     struct buffer *work = buffer(WORK, 32u * s->n), *used = buffer(OUTPUT, 8), *zero = buffer(OUTPUT, 4);
     struct buffer *groups = buffer(OUTPUT, 8), *elements = buffer(OUTPUT, 8);
     keep();
-    number = giophantus_keygen(SET(s), OCTETS(random), OCTETS(secret), OCTETS(public), WORDS(work), (void *)used->at,
+    number = giophantus_keygen(*s, OCTETS(random), OCTETS(secret), OCTETS(public), WORDS(work), (void *)used->at,
                                (void *)groups->at, (void *)elements->at);
     settle(number);
     tell(ROUND, number, s);
@@ -583,8 +654,9 @@ static void round_trip(const struct set *s, size_t sk, size_t pk, size_t msg, si
     if (number != 0)
         return;
     secret->kind = public->kind = INPUT;
+    giophantus_set other = other_edition(s);
     keep();
-    number = giophantus_is_zero(SET(s), OCTETS(secret), OCTETS(public), WORDS(work), (void *)zero->at);
+    number = giophantus_is_zero(other, OCTETS(secret), OCTETS(public), WORDS(work), (void *)zero->at);
     settle(number);
     uint32_t is_zero;
     memcpy(&is_zero, zero->at, 4);
@@ -598,7 +670,7 @@ static void round_trip(const struct set *s, size_t sk, size_t pk, size_t msg, si
         more[i] = buffer(INPUT, 4 * (places(s->dr) * s->n * qlen + places(s->dx + s->dr) * small) + 64);
         cipher[i] = buffer(OUTPUT, ct);
         keep();
-        number = giophantus_encrypt(SET(s), OCTETS(public), OCTETS(message[i]), OCTETS(more[i]), OCTETS(cipher[i]),
+        number = giophantus_encrypt(i == 0 ? *s : other, OCTETS(public), OCTETS(message[i]), OCTETS(more[i]), OCTETS(cipher[i]),
                                     WORDS(work), (void *)used->at, (void *)groups->at);
         settle(number);
         judge_draws(number, encrypt_draws(s), more[i], used, groups, NULL);
@@ -608,12 +680,12 @@ static void round_trip(const struct set *s, size_t sk, size_t pk, size_t msg, si
     }
     struct buffer *sum = buffer(OUTPUT, ct), *back = buffer(OUTPUT, msg);
     keep();
-    number = giophantus_decrypt(SET(s), OCTETS(secret), OCTETS(cipher[0]), OCTETS(back), WORDS(work));
+    number = giophantus_decrypt(other, OCTETS(secret), OCTETS(cipher[0]), OCTETS(back), WORDS(work));
     settle(number);
     rule(number == 0, "a fresh ciphertext isn't decrypted");
     rule(memcmp(back->at, message[0]->at, msg) == 0, "a fresh ciphertext decrypts to another message");
     keep();
-    number = giophantus_add(SET(s), OCTETS(cipher[0]), OCTETS(cipher[1]), OCTETS(sum));
+    number = giophantus_add(*s, OCTETS(cipher[0]), OCTETS(cipher[1]), OCTETS(sum));
     /* add has no work words; those of the calls before are zero already */
     settle(number);
     rule(number == 0, "two ciphertexts aren't added");
@@ -621,7 +693,7 @@ static void round_trip(const struct set *s, size_t sk, size_t pk, size_t msg, si
         return; /* no headroom for two */
     sum->kind = INPUT;
     keep();
-    number = giophantus_decrypt(SET(s), OCTETS(secret), OCTETS(sum), OCTETS(back), WORDS(work));
+    number = giophantus_decrypt(*s, OCTETS(secret), OCTETS(sum), OCTETS(back), WORDS(work));
     settle(number);
     rule(number == 0, "a sum isn't decrypted");
     for (uint32_t i = 0; i < s->mlen / b; i++) {
@@ -636,14 +708,12 @@ static void round_trip(const struct set *s, size_t sk, size_t pk, size_t msg, si
     }
 }
 
-typedef uint32_t from_octets(uint32_t, uint32_t, uint32_t, uint32_t, uint32_t, uint32_t, const uint8_t *, size_t,
-                             uint32_t *, size_t);
-typedef uint32_t to_octets(uint32_t, uint32_t, uint32_t, uint32_t, uint32_t, uint32_t, const uint32_t *, size_t,
-                           uint8_t *, size_t);
+typedef uint32_t from_octets(giophantus_set, const uint8_t *, size_t, uint32_t *, size_t);
+typedef uint32_t to_octets(giophantus_set, const uint32_t *, size_t, uint8_t *, size_t);
 
 static void one_call(void) {
     enum call call = octet() % CALLS;
-    struct set s = choose_set();
+    giophantus_set s = choose_set();
     uint32_t refused = refusal_of(&s), number = 0, unfit = 0;
     now = names[call];
 
@@ -667,14 +737,15 @@ static void one_call(void) {
 
     struct buffer *x, *y, *z, *w, *u = NULL, *v = NULL, *e = NULL, *r = NULL;
     struct draws d = {0, 0, 0, &s};
+    struct keys k;
     switch (call) {
     case CHECK:
-        number = giophantus_check(SET(&s));
+        number = giophantus_check(s);
         break;
     case LIMITS:
         x = buffer(OUTPUT, 4), y = buffer(OUTPUT, 4);
         keep();
-        number = giophantus_limits(SET(&s), (void *)x->at, (void *)y->at);
+        number = giophantus_limits(s, (void *)x->at, (void *)y->at);
         if (number == 0 && refused == 0) {
             uint32_t bound, headroom;
             memcpy(&bound, x->at, 4), memcpy(&headroom, y->at, 4);
@@ -685,7 +756,7 @@ static void one_call(void) {
         for (int i = 0; i < 5; i++)
             buffer(OUTPUT, 8);
         keep();
-        number = giophantus_lengths(SET(&s), (void *)buffers[0].at, (void *)buffers[1].at, (void *)buffers[2].at,
+        number = giophantus_lengths(s, (void *)buffers[0].at, (void *)buffers[1].at, (void *)buffers[2].at,
                                     (void *)buffers[3].at, (void *)buffers[4].at);
         uint64_t want[] = {sk, pk, msg, ct, work_words};
         for (int i = 0; i < 5 && number == 0 && refused == 0; i++)
@@ -696,16 +767,20 @@ static void one_call(void) {
         d = keygen_draws(&s), r = refused == 0 ? random_octets(&d) : buffer(INPUT, octet());
         x = sized(OUTPUT, sk, 1), y = sized(OUTPUT, pk, 1), w = sized(WORK, work_words, 4);
         u = buffer(OUTPUT, 8), v = buffer(OUTPUT, 8), e = buffer(OUTPUT, 8);
+        k = (struct keys){r, x, y, w, u, v, e, 0};
         keep();
-        number = giophantus_keygen(SET(&s), OCTETS(r), OCTETS(x), OCTETS(y), WORDS(w), (void *)u->at, (void *)v->at,
-                                   (void *)e->at);
+        number = k.number = keygen(s, &k);
+        if (s.edition == 1 || s.edition == 2) {
+            settle(number);
+            keygen_again(&s, &k);
+        }
         break;
     case IS_ZERO:
         x = sized(INPUT, sk, 1), y = sized(INPUT, pk, 1), w = sized(WORK, work_words, 4), u = buffer(OUTPUT, 4);
         if (refused == 0 && !wrong_length)
             unfit = fit_secret_and(x, y, &s);
         keep();
-        number = giophantus_is_zero(SET(&s), OCTETS(x), OCTETS(y), WORDS(w), (void *)u->at);
+        number = giophantus_is_zero(s, OCTETS(x), OCTETS(y), WORDS(w), (void *)u->at);
         break;
     case ENCRYPT:
         x = sized(INPUT, pk, 1), y = sized(INPUT, msg, 1);
@@ -714,7 +789,7 @@ static void one_call(void) {
         if (refused == 0 && !wrong_length)
             unfit = fit_both(y, s.mlen, x, qlen, s.q);
         keep();
-        number = giophantus_encrypt(SET(&s), OCTETS(x), OCTETS(y), OCTETS(r), OCTETS(z), WORDS(w), (void *)u->at,
+        number = giophantus_encrypt(s, OCTETS(x), OCTETS(y), OCTETS(r), OCTETS(z), WORDS(w), (void *)u->at,
                                     (void *)v->at);
         break;
     case ADD:
@@ -725,7 +800,7 @@ static void one_call(void) {
                 unfit = GIOPHANTUS_COEFFICIENT;
         }
         keep();
-        number = giophantus_add(SET(&s), OCTETS(x), OCTETS(y), OCTETS(z));
+        number = giophantus_add(s, OCTETS(x), OCTETS(y), OCTETS(z));
         for (size_t i = 0; number == 0 && refused == 0 && i < z->octets / qlen; i++)
             rule(coefficient(z, i, qlen) == ((uint64_t)coefficient(x, i, qlen) + coefficient(y, i, qlen)) % s.q,
                  "a coefficient of the sum isn't the sum modulo q");
@@ -735,7 +810,7 @@ static void one_call(void) {
         if (refused == 0 && !wrong_length)
             unfit = fit_secret_and(x, y, &s);
         keep();
-        number = giophantus_decrypt(SET(&s), OCTETS(x), OCTETS(y), OCTETS(z), WORDS(w));
+        number = giophantus_decrypt(s, OCTETS(x), OCTETS(y), OCTETS(z), WORDS(w));
         break;
     case MULTIPLY_ADD:
         number = multiply_add(&s, refused == 0, n, &unfit);
@@ -755,21 +830,21 @@ static void one_call(void) {
             if (refused == 0 && !wrong_length)
                 unfit = packed ? fit_packed(x, n * b) : fit_coefficients(x, qlen, s.q);
             keep();
-            number = from[which](SET(&s), OCTETS(x), WORDS(y));
+            number = from[which](s, OCTETS(x), WORDS(y));
         } else {
             x = sized(INPUT, words[which], 4), y = sized(OUTPUT, octets[which], 1);
             if (refused == 0 && !wrong_length)
                 unfit = fit_coefficients(x, 4, packed ? s.l : s.q);
             keep();
-            number = to[which](SET(&s), WORDS(x), OCTETS(y));
+            number = to[which](s, WORDS(x), OCTETS(y));
         }
         if (number == 0) { /* and back: the same again */
             settle(number);
             struct buffer *again = buffer(OUTPUT, x->octets);
             y->kind = INPUT;
             keep();
-            uint32_t second = (call - ELEMENT_FROM) % 2 == 0 ? to[which](SET(&s), WORDS(y), OCTETS(again))
-                                                             : from[which](SET(&s), OCTETS(y), WORDS(again));
+            uint32_t second = (call - ELEMENT_FROM) % 2 == 0 ? to[which](s, WORDS(y), OCTETS(again))
+                                                             : from[which](s, OCTETS(y), WORDS(again));
             settle(second);
             rule(second == 0 && memcmp(again->at, x->at, x->octets) == 0, "there and back isn't the same");
         }

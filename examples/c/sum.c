@@ -15,18 +15,14 @@
 #include "example.h"
 #include "giophantus.h"
 
-/* The set: l, q, n, dx, dr, mlen. Four counts of 0 to 15 in a message, and room for 819 summands. */
-#define L 16u
-#define Q 2147483647u
+/* The set: four counts of 0 to 15 in a message, and room for 819 summands. An edition left out is 0, and refused. */
 #define N 4u
-#define DX 1u
-#define DR 1u
-#define MLEN 16u
-#define SET L, Q, N, DX, DR, MLEN
-#define COUNTS 4u /* MLEN divided by the 4 bits of a count */
+#define COUNTS 4u /* mlen divided by the 4 bits of a count */
+static const giophantus_set set = {
+    .l = 16, .q = 2147483647, .n = N, .dx = 1, .dr = 1, .mlen = 4 * COUNTS, .edition = 1};
 
-/* More than each step here uses: 36 for keys and 60 for a ciphertext, 4 more for each group that is dropped, and 2 more
-   for each element that is. */
+/* More than each step here uses: 36 for keys (52 in edition 2) and 60 for a ciphertext, 4 more for each group that is
+   dropped, and 2 more for each element that is. */
 #define RANDOM_OCTETS 128u
 
 static void *buffer(uint64_t count, size_t size) {
@@ -55,7 +51,7 @@ static void message_from_counts(const uint32_t counts[COUNTS], uint8_t *message,
     uint8_t octets[N / 2] = {0}; /* N coefficients of 4 bits */
     for (size_t i = 0; i < COUNTS; i++)
         words[i] = counts[i];
-    accepted("message", giophantus_small_to_octets(SET, words, N, octets, sizeof octets));
+    accepted("message", giophantus_small_to_octets(set, words, N, octets, sizeof octets));
     for (size_t i = 0; i < message_len; i++)
         message[i] = octets[i];
 }
@@ -65,7 +61,7 @@ static void print_counts(const char *whose, const uint8_t *message, size_t messa
     uint8_t octets[N / 2] = {0};
     for (size_t i = 0; i < message_len; i++)
         octets[i] = message[i];
-    accepted("counts", giophantus_small_from_octets(SET, octets, sizeof octets, words, N));
+    accepted("counts", giophantus_small_from_octets(set, octets, sizeof octets, words, N));
     printf("%-13s", whose);
     for (size_t i = 0; i < COUNTS; i++)
         printf(" %2" PRIu32, words[i]);
@@ -79,8 +75,8 @@ int main(void) {
     uint64_t used = 0, groups = 0, elements = 0; /* random octets used; groups and elements dropped */
     uint8_t random[RANDOM_OCTETS];
 
-    accepted("limits", giophantus_limits(SET, &bound, &headroom));
-    accepted("lengths", giophantus_lengths(SET, &secret_len, &public_len, &message_len, &ciphertext_len, &work_len));
+    accepted("limits", giophantus_limits(set, &bound, &headroom));
+    accepted("lengths", giophantus_lengths(set, &secret_len, &public_len, &message_len, &ciphertext_len, &work_len));
     printf("bound %" PRIu32 ", headroom %" PRIu32 " summands\n", bound, headroom);
 
     uint8_t *secret_key = buffer(secret_len, 1);
@@ -91,9 +87,9 @@ int main(void) {
     uint32_t *work = buffer(work_len, sizeof *work);
 
     fixed_octets(1, random);
-    accepted("keygen", giophantus_keygen(SET, random, sizeof random, secret_key, secret_len, public_key, public_len,
+    accepted("keygen", giophantus_keygen(set, random, sizeof random, secret_key, secret_len, public_key, public_len,
                                          work, work_len, &used, &groups, &elements));
-    accepted("is_zero", giophantus_is_zero(SET, secret_key, secret_len, public_key, public_len, work, work_len, &zero));
+    accepted("is_zero", giophantus_is_zero(set, secret_key, secret_len, public_key, public_len, work, work_len, &zero));
     printf("keys from %" PRIu64 " octets; dropped: groups %" PRIu64 ", elements %" PRIu64 "\n", used, groups,
            elements);
     printf("the secret key is a zero of the public key: %s\n", zero ? "yes" : "no");
@@ -102,20 +98,20 @@ int main(void) {
         message_from_counts(counts[i], message, message_len);
         print_counts(i == 0 ? "laboratory 1" : "laboratory 2", message, message_len);
         fixed_octets(2 + i, random);
-        accepted("encrypt", giophantus_encrypt(SET, public_key, public_len, message, message_len, random,
+        accepted("encrypt", giophantus_encrypt(set, public_key, public_len, message, message_len, random,
                                                sizeof random, ciphertext[i], ciphertext_len, work, work_len, &used,
                                                &groups));
     }
 
-    accepted("add", giophantus_add(SET, ciphertext[0], ciphertext_len, ciphertext[1], ciphertext_len, total,
+    accepted("add", giophantus_add(set, ciphertext[0], ciphertext_len, ciphertext[1], ciphertext_len, total,
                                    ciphertext_len));
-    accepted("decrypt", giophantus_decrypt(SET, secret_key, secret_len, total, ciphertext_len, message, message_len,
+    accepted("decrypt", giophantus_decrypt(set, secret_key, secret_len, total, ciphertext_len, message, message_len,
                                            work, work_len));
     print_counts("total", message, message_len);
 
     /* A refusal: a ciphertext that lost its last octet. The total keeps its old contents. */
     printf("a short ciphertext: refusal %" PRIu32 "\n",
-           giophantus_add(SET, ciphertext[0], ciphertext_len, ciphertext[1], ciphertext_len - 1, total, ciphertext_len));
+           giophantus_add(set, ciphertext[0], ciphertext_len, ciphertext[1], ciphertext_len - 1, total, ciphertext_len));
 
     free(secret_key);
     free(public_key);

@@ -12,10 +12,10 @@
 #include "example.h"
 #include "giophantus.h"
 
-/* The set: l, q, n, dx, dr, mlen. So small that the products can be checked on paper. */
+/* The set: so small that the products can be checked on paper. */
 #define Q 1459u
 #define N 2u
-#define SET 4u, Q, N, 1u, 1u, 4u
+static const giophantus_set set = {.l = 4, .q = Q, .n = N, .dx = 1, .dr = 1, .mlen = 4, .edition = 1};
 
 /* Its lengths, as giophantus_lengths gives them. */
 #define SECRET_KEY_OCTETS 2u
@@ -41,8 +41,8 @@ static void print_element(const char *name, const uint32_t words[N]) {
 /* The value begins as what 1 is multiplied by, and gains the two products. */
 static void value_at(const uint32_t *secret_key, const uint32_t *public_key, uint32_t value[N]) {
     memcpy(value, public_key + OF_1, N * sizeof *value);
-    accepted("multiply_add", giophantus_multiply_add(SET, public_key + OF_X, N, secret_key + U_X, N, value, N));
-    accepted("multiply_add", giophantus_multiply_add(SET, public_key + OF_Y, N, secret_key + U_Y, N, value, N));
+    accepted("multiply_add", giophantus_multiply_add(set, public_key + OF_X, N, secret_key + U_X, N, value, N));
+    accepted("multiply_add", giophantus_multiply_add(set, public_key + OF_Y, N, secret_key + U_Y, N, value, N));
 }
 
 /* The value at a secret key, and what giophantus_is_zero says of the two keys. */
@@ -55,9 +55,9 @@ static void zero_test(const uint32_t *secret_key, const uint32_t *public_key, co
     value_at(secret_key, public_key, value);
     print_element("value", value);
 
-    accepted("secret_key_to_octets", giophantus_secret_key_to_octets(SET, secret_key, SECRET_KEY_WORDS, secret_octets,
+    accepted("secret_key_to_octets", giophantus_secret_key_to_octets(set, secret_key, SECRET_KEY_WORDS, secret_octets,
                                                                      sizeof secret_octets));
-    accepted("is_zero", giophantus_is_zero(SET, secret_octets, sizeof secret_octets, public_octets, PUBLIC_KEY_OCTETS,
+    accepted("is_zero", giophantus_is_zero(set, secret_octets, sizeof secret_octets, public_octets, PUBLIC_KEY_OCTETS,
                                            work, WORK_WORDS, &zero));
     printf("giophantus_is_zero: %s\n", zero ? "yes" : "no");
 }
@@ -67,13 +67,13 @@ static void refusals(const uint32_t *secret_key, const uint32_t *public_key, con
     static const uint8_t ends_in_zero[SECRET_KEY_OCTETS] = {0x09, 0x03};
     uint32_t work[WORK_WORDS], zero = 0;
     printf("a secret key that ends in zero: refusal %" PRIu32 "\n",
-           giophantus_is_zero(SET, ends_in_zero, sizeof ends_in_zero, public_octets, PUBLIC_KEY_OCTETS, work,
+           giophantus_is_zero(set, ends_in_zero, sizeof ends_in_zero, public_octets, PUBLIC_KEY_OCTETS, work,
                               WORK_WORDS, &zero));
 
     /* A word of c is q. c keeps its old contents. */
     uint32_t c[N] = {1, Q};
     printf("a word of q in c: refusal %" PRIu32 "\n",
-           giophantus_multiply_add(SET, public_key + OF_X, N, secret_key + U_X, N, c, N));
+           giophantus_multiply_add(set, public_key + OF_X, N, secret_key + U_X, N, c, N));
     print_element("c", c);
 }
 
@@ -86,14 +86,14 @@ int main(void) {
     uint32_t secret_key[SECRET_KEY_WORDS], public_key[PUBLIC_KEY_WORDS], work[WORK_WORDS];
     uint64_t used = 0, groups = 0, elements = 0;
 
-    accepted("keygen", giophantus_keygen(SET, random, sizeof random, secret_octets, sizeof secret_octets,
+    accepted("keygen", giophantus_keygen(set, random, sizeof random, secret_octets, sizeof secret_octets,
                                          public_octets, sizeof public_octets, work, WORK_WORDS, &used, &groups,
                                          &elements));
     printf("keys from %" PRIu64 " octets; dropped: groups %" PRIu64 ", elements %" PRIu64 "\n", used, groups,
            elements);
-    accepted("secret_key_from_octets", giophantus_secret_key_from_octets(SET, secret_octets, sizeof secret_octets,
+    accepted("secret_key_from_octets", giophantus_secret_key_from_octets(set, secret_octets, sizeof secret_octets,
                                                                          secret_key, SECRET_KEY_WORDS));
-    accepted("public_key_from_octets", giophantus_public_key_from_octets(SET, public_octets, sizeof public_octets,
+    accepted("public_key_from_octets", giophantus_public_key_from_octets(set, public_octets, sizeof public_octets,
                                                                          public_key, PUBLIC_KEY_WORDS));
     puts("the public key, what x, y and 1 are multiplied by:");
     print_element("x", public_key + OF_X);

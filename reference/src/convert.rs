@@ -13,7 +13,7 @@ const CIPHERTEXT: Lengths = (Set::ciphertext_words, Set::ciphertext_octets);
 const SMALL: Lengths = (Set::places, Set::small_octets);
 const SECRET_KEY: Lengths = (Set::secret_key_words, Set::secret_key_octets);
 
-/// Coefficients below q, from octets to words: refusals 1 to 5, 6, 8.
+/// Coefficients below q, from octets to words: refusals 1 to 5, 18, 6, 8.
 fn from_octets(set: Set, kind: Lengths, octets: &[u8], words: &mut [u32]) -> u32 {
     let number = check_lengths(set, [(words.len(), kind.0), (octets.len(), kind.1)]);
     if number != refusal::NONE {
@@ -27,7 +27,7 @@ fn from_octets(set: Set, kind: Lengths, octets: &[u8], words: &mut [u32]) -> u32
     refusal::NONE
 }
 
-/// Coefficients below q, from words to octets: refusals 1 to 5, 6, 8.
+/// Coefficients below q, from words to octets: refusals 1 to 5, 18, 6, 8.
 fn to_octets(set: Set, kind: Lengths, words: &[u32], octets: &mut [u8]) -> u32 {
     let number = check_lengths(set, [(words.len(), kind.0), (octets.len(), kind.1)]);
     if number != refusal::NONE {
@@ -70,8 +70,8 @@ pub fn ciphertext_to_octets(set: Set, words: &[u32], octets: &mut [u8]) -> u32 {
     to_octets(set, CIPHERTEXT, words, octets)
 }
 
-/// Packed small elements, each with its own unused bits, from octets to words: refusals 1 to 5, 6,
-/// 7. Number 8 cannot occur, since b bits hold only numbers below l.
+/// Packed small elements, each with its own unused bits, from octets to words: refusals 1 to 5, 18,
+/// 6, 7. Number 8 cannot occur, since b bits hold only numbers below l.
 fn small_elements_from_octets(set: Set, kind: Lengths, octets: &[u8], words: &mut [u32]) -> u32 {
     let number = check_lengths(set, [(words.len(), kind.0), (octets.len(), kind.1)]);
     if number != refusal::NONE {
@@ -89,7 +89,7 @@ fn small_elements_from_octets(set: Set, kind: Lengths, octets: &[u8], words: &mu
     refusal::NONE
 }
 
-/// Small elements, from words to packed octets: refusals 1 to 5, 6, 8.
+/// Small elements, from words to packed octets: refusals 1 to 5, 18, 6, 8.
 fn small_elements_to_octets(set: Set, kind: Lengths, words: &[u32], octets: &mut [u8]) -> u32 {
     let number = check_lengths(set, [(words.len(), kind.0), (octets.len(), kind.1)]);
     if number != refusal::NONE {

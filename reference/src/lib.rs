@@ -1,6 +1,6 @@
 //! A second implementation of document 01 ("01" below) and, of document 02 ("02"), of Q-1's dropped
-//! groups, Q-3's secrets of full degree and Q-8's operation, plain on purpose: simple loops, wide
-//! integers, memory allocated freely. Tests compare the library with it.
+//! groups, Q-3's secrets of full degree, Q-7's editions and Q-8's operation, plain on purpose:
+//! simple loops, wide integers, memory allocated freely. Tests compare the library with it.
 //!
 //! Every call takes the parameter set first and its other arguments in the order of the C
 //! interface, and answers the refusal number (0 at success). On a refusal every output holds its

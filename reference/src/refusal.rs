@@ -1,5 +1,5 @@
-//! The refusal table of 01, with 02's number for Q-3. If several apply, the first in this order is
-//! given: 11, then 1 to 8, then 14, then 9, then 10.
+//! The refusal table of 01, with 02's numbers for. If several apply, the first in this
+//! order is given: 11, then 1 to 5, then 18, then 6 to 8, then 14, then 9, then 10.
 
 /// Success.
 pub const NONE: u32 = 0;
@@ -13,6 +13,8 @@ pub const DEGREE: u32 = 3;
 pub const MODULUS: u32 = 4;
 /// 01: message size. mlen is above n * b or no multiple of b.
 pub const MESSAGE_SIZE: u32 = 5;
+/// 02, Q-7. The edition isn't 1 or 2. Tested after 5 and before 6.
+pub const EDITION: u32 = 18;
 /// 01: length. A buffer (01: a lent buffer), random octets apart, isn't of its exact length.
 pub const LENGTH: u32 = 6;
 /// 01: padding. A given packed element or message has a non-zero unused bit.

@@ -3,7 +3,7 @@
 use std::io::{self, BufRead, Write};
 
 use crate::refusal;
-use crate::set::{limits, Set};
+use crate::set::{limits, set, Set};
 
 /// The most octets that a line may have before its newline.
 const LINE_OCTETS: usize = 80;
@@ -26,7 +26,8 @@ fn parse_number(field: &[u8]) -> Option<u32> {
     u32::try_from(number).ok()
 }
 
-/// The six numbers of a line (without its newline); `None` if it is malformed.
+/// The set of a line (without its newline): six numbers are edition 1, and a seventh is the edition
+/// (02, Q-7). `None` if it is malformed.
 pub fn parse_line(line: &[u8]) -> Option<Set> {
     if line.len() > LINE_OCTETS {
         return None;
@@ -35,17 +36,11 @@ pub fn parse_line(line: &[u8]) -> Option<Set> {
     for field in line.split(|&octet| octet == b' ') {
         numbers.push(parse_number(field)?);
     }
-    let [l, q, n, dx, dr, mlen] = numbers[..] else {
-        return None;
-    };
-    Some(Set {
-        l,
-        q,
-        n,
-        dx,
-        dr,
-        mlen,
-    })
+    match numbers[..] {
+        [l, q, n, dx, dr, mlen] => Some(set(l, q, n, dx, dr, mlen)),
+        [l, q, n, dx, dr, mlen, edition] => Some(set(l, q, n, dx, dr, mlen).in_edition(edition)),
+        _ => None,
+    }
 }
 
 /// The answer to a line, without its newline.
@@ -117,7 +112,7 @@ mod tests {
 
     #[test]
     fn malformed_lines() {
-        let lines: [&[u8]; 22] = [
+        let lines: [&[u8]; 25] = [
             b"",
             b" ",
             b" 4 1459 2 1 1 4",
@@ -133,7 +128,10 @@ mod tests {
             b"04 1459 2 1 1 4",
             b"4 1459 2 1 1 00",
             b"4 1459 2 1 1",
-            b"4 1459 2 1 1 4 4",
+            b"4 1459 2 1 1 4 1 1",
+            b"4 1459 2 1 1 4 01",
+            b"4 1459 2 1 1 4 2 ",
+            b"4 1459 2 1 1 4 4294967297",
             b"4 4294967296 2 1 1 4",
             b"18446744073709551620 1459 2 1 1 4",
             b"4 99999999999 2 1 1 4",
@@ -161,6 +159,9 @@ mod tests {
     fn widest_numbers_are_well_formed() {
         let line = b"4294967295 4294967295 4294967295 4294967295 4294967295 4294967295";
         assert_eq!(answer(line), "1");
+        assert_eq!(answer(&[&line[..], b" 4294967295"].concat()), "1");
         assert_eq!(answer(b"0 0 0 0 0 0"), "1");
+        assert_eq!(answer(b"0 0 0 0 0 0 0"), "1");
+        assert_eq!(answer(b"4 1459 2 1 1 4 4294967295"), "18");
     }
 }

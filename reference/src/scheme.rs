@@ -8,8 +8,9 @@ use crate::ring::{self, Element, Polynomial};
 use crate::set::{check_lengths, Set};
 
 /// 01: key making. Draws u_x, u_y (by 02's Q-3 of degree n - 1) and every key element but the
-/// constant, which is minus the sum of a_ij * u_x^i * u_y^j over the others. Reports the octets
-/// used and, by 02's, the groups and the secret elements dropped.
+/// constant, which is minus the sum of a_ij * u_x^i * u_y^j over the others. By 02's Q-7, edition 2
+/// then draws n coefficients more and throws them away. Reports the octets used and, by 02's Q-1
+/// and Q-3, the groups and the secret elements dropped. Refusals 1 to 5, 18, 6, 9.
 #[allow(clippy::too_many_arguments)] // Those of the C interface.
 pub fn keygen(
     set: Set,
@@ -59,6 +60,10 @@ fn draw_keys(set: Set, draws: &mut Draws) -> Option<(Element, Element, Polynomia
     for _ in 0..monomials::count(set.dx) - 1 {
         key.elements.push(draws.element(set)?);
     }
+    if set.draws_constant() {
+        // It has no part in the key: only its octets and its dropped groups count.
+        draws.element(set)?;
+    }
     // With a constant of zero the value is the sum over the others.
     key.elements.push(vec![0; set.places()]);
     let others = ring::value(set.q, &key, &u_x, &u_y);
@@ -67,8 +72,8 @@ fn draw_keys(set: Set, draws: &mut Draws) -> Option<(Element, Element, Polynomia
     Some((u_x, u_y, key))
 }
 
-/// The zero test: 1 if the key's value at the secret key is 0 in R_q, otherwise 0. Refusals 1 to 8,
-/// 14.
+/// The zero test: 1 if the key's value at the secret key is 0 in R_q, otherwise 0. Refusals 1 to 5,
+/// 18, 6 to 8, 14.
 ///
 /// A secret key for which it says 1 is a zero of the public key (01: a fitting secret).
 pub fn is_zero(
@@ -100,7 +105,7 @@ pub fn is_zero(
 }
 
 /// 01: sealing. c = m + X * r + l * e over R_q. Reports the octets used and, by 02's Q-1, the
-/// groups dropped.
+/// groups dropped. Refusals 1 to 5, 18, 6 to 9.
 #[allow(clippy::too_many_arguments)] // Those of the C interface.
 pub fn encrypt(
     set: Set,
@@ -171,7 +176,7 @@ fn draw_r_and_e(set: Set, draws: &mut Draws) -> Option<(Polynomial, Polynomial)>
     Some((r, e))
 }
 
-/// 01: adding two forms. Coefficient by coefficient modulo q.
+/// 01: adding two forms. Coefficient by coefficient modulo q. Refusals 1 to 5, 18, 6, 8.
 pub fn add(set: Set, a: &[u8], b: &[u8], sum: &mut [u8]) -> u32 {
     let number = check_lengths(
         set,
@@ -197,7 +202,7 @@ pub fn add(set: Set, a: &[u8], b: &[u8], sum: &mut [u8]) -> u32 {
 }
 
 /// 01: opening. w = c(u_x, u_y) in R_q, each coefficient as a number 0 to q - 1, then modulo l.
-/// Refusals 1 to 8, 14, 10, in this order.
+/// Refusals 1 to 5, 18, 6 to 8, 14, 10, in this order.
 pub fn decrypt(
     set: Set,
     secret_key: &[u8],
@@ -232,7 +237,7 @@ pub fn decrypt(
     refusal::NONE
 }
 
-/// 02, Q-8: c becomes a * b + c in R_q, n words each. Refusals 1 to 5, 6, 8.
+/// 02, Q-8: c becomes a * b + c in R_q, n words each. Refusals 1 to 5, 18, 6, 8.
 pub fn multiply_add(set: Set, a: &[u32], b: &[u32], c: &mut [u32]) -> u32 {
     let number = check_lengths(
         set,

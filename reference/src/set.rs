@@ -1,9 +1,9 @@
-//! The parameter set: its tests 1 to 5, the bound, the headroom and the lengths.
+//! The parameter set: its tests 1 to 5 and 18, the bound, the headroom and the lengths.
 
 use crate::monomials;
 use crate::refusal;
 
-/// The six numbers, in roomsheet's order.
+/// The six numbers of 01 and the edition of 02's Q-7, in roomsheet's order.
 #[derive(Clone, Copy, Debug, PartialEq, Eq)]
 pub struct Set {
     pub l: u32,
@@ -12,9 +12,10 @@ pub struct Set {
     pub dx: u32,
     pub dr: u32,
     pub mlen: u32,
+    pub edition: u32,
 }
 
-/// The set of these six numbers.
+/// The set of these six numbers, in edition 1: the rule of 01.
 pub const fn set(l: u32, q: u32, n: u32, dx: u32, dr: u32, mlen: u32) -> Set {
     Set {
         l,
@@ -23,6 +24,7 @@ pub const fn set(l: u32, q: u32, n: u32, dx: u32, dr: u32, mlen: u32) -> Set {
         dx,
         dr,
         mlen,
+        edition: 1,
     }
 }
 
@@ -58,7 +60,7 @@ pub fn headroom(q: u32, bound: u128) -> u128 {
     (u128::from(q) - 1) / bound
 }
 
-/// Tests 1 to 5, in order; the first that applies gives its number.
+/// Tests 1 to 5 and then 18; the first that applies gives its number.
 pub fn check(set: Set) -> u32 {
     let Some(b) = small_bits(set.l) else {
         return refusal::RANGE;
@@ -75,13 +77,16 @@ pub fn check(set: Set) -> u32 {
     if set.mlen > set.n * b || !set.mlen.is_multiple_of(b) {
         return refusal::MESSAGE_SIZE;
     }
+    if set.edition < 1 || set.edition > 2 {
+        return refusal::EDITION;
+    }
     refusal::NONE
 }
 
 /// A length as a function of the set.
 pub type Length = fn(Set) -> usize;
 
-/// Tests 1 to 6: the set, then each length that is given beside the exact one.
+/// Tests 1 to 5, 18 and 6: the set, then each length that is given beside the exact one.
 pub fn check_lengths<const N: usize>(set: Set, lengths: [(usize, Length); N]) -> u32 {
     let number = check(set);
     if number != refusal::NONE {
@@ -136,6 +141,13 @@ pub fn bit_length(q: u32) -> u32 {
     bits
 }
 
+impl Set {
+    /// The same set in this edition.
+    pub const fn in_edition(self, edition: u32) -> Set {
+        Set { edition, ..self }
+    }
+}
+
 /// What follows is for accepted sets.
 impl Set {
     /// b.
@@ -146,6 +158,11 @@ impl Set {
     /// D = dX + dr, the degree of a ciphertext.
     pub fn d(self) -> u32 {
         self.dx + self.dr
+    }
+
+    /// Whether keygen draws the constant as well, only to throw it away: edition 2 (02, Q-7).
+    pub fn draws_constant(self) -> bool {
+        self.edition == 2
     }
 
     /// The same set with messages of all n coefficients.

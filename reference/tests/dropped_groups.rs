@@ -1,6 +1,9 @@
-//! Request Q-1 of document 02: the groups that draws below q drop, beside the octets used. Secrets
-//! here are of full degree, so that no element is dropped.
+//! Request Q-1 of document 02: the groups that draws below q drop, beside the octets used, in both
+//! editions. Secrets here are of full degree, so that no element is dropped.
 
+mod common;
+
+use common::{in_both_editions, A};
 use reference::draw::{below_q, Draw};
 use reference::prng::Prng;
 use reference::set::set;
@@ -8,9 +11,6 @@ use reference::*;
 
 /// Octets used and groups dropped, as they are before a call.
 const OLD: [u64; 2] = [99, 77];
-
-/// Set A of the worked list.
-const A: Set = set(4, 1459, 2, 1, 1, 4);
 
 /// q a power of two or just above one, with every l and every pair of degrees: half of the groups
 /// are dropped, or nearly so.
@@ -45,7 +45,7 @@ const OTHERS: [Set; 9] = [
 ];
 
 fn sets() -> Vec<Set> {
-    [HALF.to_vec(), OTHERS.to_vec()].concat()
+    in_both_editions(&[&HALF[..], &OTHERS].concat())
 }
 
 /// What a call of keygen or encrypt gives: the number, its buffers, and the octets used with the
@@ -162,9 +162,9 @@ fn monomials(d: u32) -> usize {
     [1, 3, 6, 10, 15][d as usize]
 }
 
-/// The draws below q of a run for keys: every key element but the constant.
+/// The draws below q of a run for keys: every key element, in edition 1 without the constant.
 fn draws_for_keys(set: Set) -> usize {
-    (monomials(set.dx) - 1) * set.n as usize
+    (monomials(set.dx) + set.edition as usize - 2) * set.n as usize
 }
 
 /// The draws below q of a run for a ciphertext: the elements of r.
@@ -328,7 +328,7 @@ fn octets_used_and_groups_dropped() {
             assert_eq!(used, octets_used(set, fixed_for_ciphertext(set), dropped));
             dropped_of_all += dropped;
         }
-        if HALF.contains(&set) {
+        if HALF.contains(&set.in_edition(1)) {
             // As many dropped as kept, within a fifth.
             let kept = rounds * (draws_for_keys(set) + draws_for_ciphertext(set)) as u64;
             let fifth = kept / 5;
@@ -353,10 +353,10 @@ fn totals_are_sums_over_single_draws() {
             assert_eq!(dropped, groups_of_q_or_more(set, rest, count));
             let mut words = vec![0; set.public_key_words()];
             assert_eq!(public_key_from_octets(set, &made[1], &mut words), 0);
-            assert!(draws
-                .iter()
-                .map(|draw| draw.value)
-                .eq(words[..count].to_vec()));
+            // A constant that is drawn is thrown away.
+            let others = words.len() - set.places();
+            let values = draws.iter().map(|draw| draw.value);
+            assert!(values.take(others).eq(words[..others].to_vec()));
 
             let random = prng.octets_for(set);
             let (number, _, [used, dropped]) = ciphertext(set, &made[1], &random);
@@ -482,7 +482,7 @@ fn check_every_length(run: &dyn Fn(&[u8]) -> Given, random: &[u8]) -> u64 {
 fn exhausted_at_every_length() {
     let mut prng = Prng::new(15);
     let mut after_dropped_groups = 0;
-    for set in HALF {
+    for set in in_both_editions(&HALF) {
         let random = octets_for_keys(set, &mut prng);
         after_dropped_groups += check_every_length(&|octets| keys(set, octets), &random);
         let random = prng.octets_for(set);
@@ -493,7 +493,7 @@ fn exhausted_at_every_length() {
     assert!(after_dropped_groups > 100, "{after_dropped_groups}");
 }
 
-/// Numbers 1 to 8, with octets of which some groups would be dropped.
+/// Numbers 1 to 5, 18 and 6 to 8, with octets of which some groups would be dropped.
 #[test]
 fn refusals_keep_the_numbers() {
     let random = [[0xB3, 0x05].repeat(3), vec![0; 40]].concat();
@@ -515,6 +515,7 @@ fn refusals_keep_the_numbers() {
         (Set { dx: 3, ..A }, 3),
         (Set { q: 1455, ..A }, 4),
         (Set { mlen: 3, ..A }, 5),
+        (A.in_edition(3), 18),
     ] {
         assert_eq!(try_keygen(set, 12), (wanted, OLD));
         assert_eq!(try_encrypt(set, &[0; 12], 0), (wanted, OLD));

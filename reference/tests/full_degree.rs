@@ -1,84 +1,15 @@
 //! Request Q-3 of document 02: the elements of a secret have degree n - 1. keygen drops the others
-//! whole, and decrypt and the zero test refuse them.
+//! whole, in both editions, and decrypt and the zero test refuse them.
 
+mod common;
+
+use common::*;
 use reference::draw::below_q;
 use reference::monomials;
 use reference::octets;
 use reference::prng::Prng;
 use reference::set::set;
 use reference::*;
-
-/// Set A of the worked list.
-const A: Set = set(4, 1459, 2, 1, 1, 4);
-
-/// The draws below q of worked case 2, after its secret.
-const TERMS: [u8; 8] = [0x05, 0x00, 0x07, 0x00, 0x64, 0x00, 0x01, 0x00];
-
-/// The keys of worked case 2.
-const SECRET_KEY: [u8; 2] = [0x09, 0x04];
-const PUBLIC_KEY: [u8; 12] = [5, 0, 7, 0, 0x64, 0, 1, 0, 0x9F, 5, 0x3E, 5];
-
-/// The ciphertext of worked case 3.
-const CIPHERTEXT: [u8; 24] = [
-    0x09, 0, 0x07, 0, 0x64, 0, 0x01, 0, 0, 0, 0x08, 0, 0xB2, 5, 0x4F, 5, 0x01, 0, 0x64, 0, 0x44, 5,
-    0xAA, 5,
-];
-
-/// Every l, every pair of degrees, every qlen; small elements with unused bits and without.
-const SETS: [Set; 18] = [
-    set(2, 36, 2, 1, 1, 2),
-    set(2, 251, 3, 1, 1, 1),
-    set(2, 65_521, 8, 1, 1, 8),
-    set(2, 65_537, 9, 1, 1, 9),
-    set(2, 16_777_213, 7, 1, 2, 5),
-    set(2, 2_147_483_647, 17, 2, 2, 13),
-    A,
-    set(4, 65_536, 5, 1, 1, 8),
-    set(4, 16_777_213, 4, 1, 2, 8),
-    set(4, 467_424_413, 40, 1, 1, 80),
-    set(8, 65_521, 2, 1, 1, 6),
-    set(8, 1_048_577, 3, 1, 1, 9),
-    set(8, 1_073_741_825, 6, 2, 2, 18),
-    set(8, 2_147_483_646, 8, 2, 1, 24),
-    set(8, 1_048_573, 9, 1, 1, 27),
-    set(16, 2_147_483_647, 2, 2, 2, 8),
-    set(16, 2_147_483_647, 5, 1, 2, 20),
-    set(16, 16_777_215, 8, 1, 1, 32),
-];
-
-/// Octets used, groups and elements dropped, as they are before a call.
-const OLD: [u64; 3] = [99, 77, 55];
-
-/// What a call of keygen gives: the number, both keys, and the octets used with the groups and the
-/// elements dropped.
-type Given = (u32, Vec<u8>, Vec<u8>, [u64; 3]);
-
-/// Makes keys into marked buffers; the lengths are right and the set is accepted.
-fn keys(set: Set, random: &[u8]) -> Given {
-    let mut secret_key = vec![0xAA; set.secret_key_octets()];
-    let mut public_key = vec![0xAA; set.public_key_octets()];
-    let mut work = vec![7; set.work_words()];
-    let [mut used, mut groups, mut elements] = OLD;
-    let number = keygen(
-        set,
-        random,
-        &mut secret_key,
-        &mut public_key,
-        &mut work,
-        &mut used,
-        &mut groups,
-        &mut elements,
-    );
-    assert!(work.iter().all(|&x| x == 0));
-    (number, secret_key, public_key, [used, groups, elements])
-}
-
-/// What keygen gives where the octets end too early.
-fn exhausted(set: Set) -> Given {
-    let [secret_key, public_key] =
-        [set.secret_key_octets(), set.public_key_octets()].map(|length| vec![0xAA; length]);
-    (9, secret_key, public_key, OLD)
-}
 
 /// The number of decrypt; the message is written at 0 only, and the work words are zero.
 fn decrypt_number(set: Set, secret_key: &[u8], ciphertext: &[u8]) -> u32 {
@@ -120,18 +51,6 @@ fn without_unused_bits(set: Set, packed: &[u8]) -> Vec<u8> {
         *packed.last_mut().expect("not empty") &= (1 << used_bits) - 1;
     }
     packed
-}
-
-/// The draws below q of a run for keys: every key element but the constant.
-fn draws_below_q(set: Set) -> usize {
-    (monomials::count(set.dx) - 1) * set.places()
-}
-
-/// 2 * ceil(n * b / 8) + qlen * (N(dX) - 1) * n, and qlen for each group dropped, ceil(n * b / 8)
-/// for each element.
-fn octets_used(set: Set, groups: u64, elements: u64) -> u64 {
-    let (qlen, small) = (set.qlen() as u64, set.small_octets() as u64);
-    2 * small + qlen * draws_below_q(set) as u64 + qlen * groups + small * elements
 }
 
 /// Worked case 2 with elements dropped: the same keys.
@@ -215,7 +134,7 @@ fn order_of_the_numbers() {
     }
 }
 
-/// The numbers 1 to 6 come before 14 and leave the work words.
+/// The set's numbers and 6 come before 14 and leave the work words.
 #[test]
 fn set_and_lengths_come_first() {
     let secret_key = [0x09, 0x00];
@@ -225,6 +144,8 @@ fn set_and_lengths_come_first() {
         (Set { dx: 3, ..A }, 16, 3),
         (Set { q: 1455, ..A }, 16, 4),
         (Set { mlen: 3, ..A }, 16, 5),
+        (A.in_edition(0), 16, 18),
+        (A.in_edition(3), 15, 18),
         (A, 15, 6),
         (A, 17, 6),
     ] {
@@ -400,26 +321,13 @@ fn walk(set: Set, random: &[u8]) -> Walk {
     }
 }
 
-/// Up to five elements, each of zeros or random, then random octets.
-fn octets_with_zeros(set: Set, prng: &mut Prng) -> Vec<u8> {
-    let mut random = Vec::new();
-    for _ in 0..prng.below(6) {
-        match prng.below(2) {
-            0 => random.extend(vec![0; set.small_octets()]),
-            _ => random.extend(prng.octets(set.small_octets())),
-        }
-    }
-    random.extend(prng.octets_for(set));
-    random
-}
-
 /// The keys and the report are those of the octets taken one after the other, the octets used
 /// follow from the other two numbers, and the secret is a zero of the key.
 #[test]
 fn keys_of_random_octets() {
     let mut prng = Prng::new(31);
     let mut groups_of_all = 0;
-    for set in SETS {
+    for set in in_both_editions(&SETS) {
         assert_eq!(check(set), 0, "{set:?}");
         let mut elements_of_all = 0;
         for _ in 0..200 {
@@ -430,7 +338,8 @@ fn keys_of_random_octets() {
             assert_eq!(secret_key, wanted.secret_key);
             let mut words = vec![0; set.public_key_words()];
             assert_eq!(public_key_from_octets(set, &public_key, &mut words), 0);
-            assert_eq!(words[..draws_below_q(set)], wanted.drawn);
+            let others = words.len() - set.places();
+            assert_eq!(words[..others], wanted.drawn[..others]);
 
             let [used, groups, elements] = report;
             assert_eq!(used, octets_used(set, groups, elements), "{set:?}");
@@ -467,7 +376,7 @@ fn share_of_dropped_elements() {
 #[test]
 fn one_more_dropped_element() {
     let mut prng = Prng::new(33);
-    for set in SETS {
+    for set in in_both_editions(&SETS) {
         let small = set.small_octets();
         let random = octets_with_zeros(set, &mut prng);
         let (number, secret_key, public_key, [used, groups, elements]) = keys(set, &random);
@@ -494,7 +403,7 @@ fn one_more_dropped_element() {
 #[test]
 fn exhausted_at_every_length() {
     let mut prng = Prng::new(34);
-    for set in SETS {
+    for set in in_both_editions(&SETS) {
         let zeros = vec![0; 2 * set.small_octets()];
         let random = [zeros, octets_with_zeros(set, &mut prng)].concat();
         let given = keys(set, &random);

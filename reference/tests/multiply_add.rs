@@ -204,10 +204,10 @@ fn one_buffer_for_a_and_b() {
     assert_eq!((a, c), ([1, 2], [5, 5]));
 }
 
-/// A set with everything wrong, put right number by number: 1 to 5, then 6, 8 and 0.
+/// A set with everything wrong, put right number by number: 1 to 5, then 18, 6, 8 and 0.
 #[test]
 fn refusals_in_order() {
-    let mut given = set(3, 0, 1, 0, 3, 9);
+    let mut given = set(3, 0, 1, 0, 3, 9).in_edition(0);
     let bad = [u32::MAX; 3];
     assert_eq!(refused(given, &bad, &bad, &bad), 1);
     given.l = 4;
@@ -231,6 +231,11 @@ fn refusals_in_order() {
     assert_eq!(refused(given, &bad, &bad, &bad), 5);
     assert_eq!(refused(given, &[0, 0], &[0, 0], &[0, 0]), 5);
     given.mlen = 4;
+    assert_eq!(refused(given, &bad, &bad, &bad), 18);
+    given.edition = 3;
+    assert_eq!(refused(given, &bad, &bad, &bad), 18);
+    assert_eq!(refused(given, &[0, 0], &[0, 0], &[0, 0]), 18);
+    given.edition = 2;
     assert_eq!(refused(given, &bad, &bad, &bad), 6);
     assert_eq!(refused(given, &bad[1..], &bad[1..], &bad[1..]), 8);
     assert_eq!(

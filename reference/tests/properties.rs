@@ -1,5 +1,9 @@
-//! Properties of document 01, with the secrets of 02's Q-3, on many sets with fixed random octets.
+//! Properties of document 01, with the secrets of 02's Q-3 and in both editions of its Q-7, on many
+//! sets with fixed random octets.
 
+mod common;
+
+use common::numbers_of_bad_calls;
 use reference::ledger::Ledger;
 use reference::prng::Prng;
 use reference::ring;
@@ -7,28 +11,28 @@ use reference::scheme::{read_polynomial, read_secret_key};
 use reference::set::{bound, headroom, set};
 use reference::*;
 
-/// Every l, every pair of degrees, every qlen that a set can have, odd lengths.
+/// Every l, every pair of degrees, every qlen that a set can have, odd lengths, both editions.
 const SETS: [Set; 20] = [
-    set(2, 37, 2, 1, 1, 2),
+    set(2, 37, 2, 1, 1, 2).in_edition(2),
     set(2, 251, 3, 1, 1, 1),
     set(2, 65_521, 11, 1, 1, 11),
     set(2, 16_777_213, 7, 1, 2, 5),
-    set(2, 2_147_483_647, 13, 2, 2, 13),
+    set(2, 2_147_483_647, 13, 2, 2, 13).in_edition(2),
     set(2, 1_000_003, 9, 2, 1, 0),
     set(4, 1459, 2, 1, 1, 4),
-    set(4, 65_521, 2, 1, 1, 4),
+    set(4, 65_521, 2, 1, 1, 4).in_edition(2),
     set(4, 65_536, 5, 1, 1, 8),
-    set(4, 16_777_213, 6, 1, 2, 12),
+    set(4, 16_777_213, 6, 1, 2, 12).in_edition(2),
     set(4, 2_147_483_647, 9, 2, 2, 14),
     set(4, 467_424_413, 40, 1, 1, 80),
     set(8, 1_048_573, 9, 1, 1, 27),
     set(8, 16_777_213, 3, 1, 2, 9),
-    set(8, 2_147_483_647, 7, 2, 2, 18),
-    set(8, 2_147_483_646, 11, 2, 1, 33),
-    set(16, 16_777_215, 8, 1, 1, 32),
+    set(8, 2_147_483_647, 7, 2, 2, 18).in_edition(2),
+    set(8, 2_147_483_646, 11, 2, 1, 33).in_edition(2),
+    set(16, 16_777_215, 8, 1, 1, 32).in_edition(2),
     set(16, 2_147_483_647, 5, 1, 2, 20),
     set(16, 2_147_483_647, 2, 2, 2, 8),
-    set(16, 2_147_483_629, 115, 1, 1, 456),
+    set(16, 2_147_483_629, 115, 1, 1, 456).in_edition(2),
 ];
 
 struct Keys {
@@ -187,10 +191,10 @@ fn keys_and_messages() {
 fn largest_rings() {
     let mut prng = Prng::new(2);
     for set in [
-        set(2, 100_679_684, 4096, 1, 1, 4096),
+        set(2, 100_679_684, 4096, 1, 1, 4096).in_edition(2),
         set(4, 467_424_413, 1201, 1, 1, 2402),
         set(8, 2_147_483_647, 510, 1, 1, 1530),
-        set(2, 2_147_483_647, 600, 1, 2, 599),
+        set(2, 2_147_483_647, 600, 1, 2, 599).in_edition(2),
     ] {
         assert_eq!(check(set), 0, "{set:?}");
         let keys = make_keys(set, &mut prng);
@@ -365,49 +369,6 @@ fn product_by_definition() {
 /// Small elements of 6 bits: two unused bits each.
 const SIX_BITS: Set = set(4, 4001, 3, 1, 1, 4);
 
-/// The numbers of keygen, the zero test, encrypt and decrypt with buffers of these sizes (secret
-/// key, public key, message, ciphertext, work words), every given octet bad and no random octets.
-/// Work words are left at 6 and otherwise zero; nothing else is touched.
-fn numbers_of_bad_calls(sizes: [usize; 5]) -> [u32; 4] {
-    let set = SIX_BITS;
-    let octets = [0, 1, 2, 3].map(|i| vec![0xEE; sizes[i]]);
-    let [mut sk, mut pk, mut m, mut c] = octets.clone();
-    let mut work = [(); 4].map(|()| vec![7; sizes[4]]);
-    let [of_keygen, of_is_zero, of_encrypt, of_decrypt] = &mut work;
-    let (mut used, mut groups, mut elements, mut zero) = (99, 77, 55, 33);
-    let numbers = [
-        keygen(
-            set,
-            &[],
-            &mut sk,
-            &mut pk,
-            of_keygen,
-            &mut used,
-            &mut groups,
-            &mut elements,
-        ),
-        is_zero(set, &sk, &pk, of_is_zero, &mut zero),
-        encrypt(
-            set,
-            &pk,
-            &m,
-            &[],
-            &mut c,
-            of_encrypt,
-            &mut used,
-            &mut groups,
-        ),
-        decrypt(set, &sk, &c, &mut m, of_decrypt),
-    ];
-    for (number, words) in numbers.into_iter().zip(work) {
-        let wanted = if number == 6 { 7 } else { 0 };
-        assert_eq!(words, vec![wanted; sizes[4]]);
-    }
-    assert_eq!((used, groups, elements, zero), (99, 77, 55, 33));
-    assert_eq!([sk, pk, m, c], octets);
-    numbers
-}
-
 /// Each buffer one too short or too long: 6, before 7, 8 and 9.
 #[test]
 fn lengths_come_first() {
@@ -421,7 +382,7 @@ fn lengths_come_first() {
         set.work_words(),
     ];
     assert_eq!(good, [2, 18, 1, 36, 24]);
-    assert_eq!(numbers_of_bad_calls(good), [9, 7, 7, 7]);
+    assert_eq!(numbers_of_bad_calls(set, good), [9, 7, 7, 7]);
     for (at, wanted) in [
         (0, [6, 6, 7, 6]),
         (1, [6, 6, 6, 7]),
@@ -432,7 +393,7 @@ fn lengths_come_first() {
         for change in [-1, 1] {
             let mut sizes = good;
             sizes[at] = sizes[at].wrapping_add_signed(change);
-            assert_eq!(numbers_of_bad_calls(sizes), wanted);
+            assert_eq!(numbers_of_bad_calls(set, sizes), wanted);
         }
     }
 }

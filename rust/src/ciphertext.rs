@@ -73,7 +73,7 @@ impl<S> Ciphertext<S> {
     pub fn try_add(&self, other: &Self) -> Result<Self, Error> {
         self.set.same(&other.set)?;
         let mut sum = vec![0; self.set.ciphertext_len()];
-        ffi::add(self.set.numbers(), &self.octets, &other.octets, &mut sum)?;
+        ffi::add(self.set.raw(), &self.octets, &other.octets, &mut sum)?;
         Ok(Self::judged(self.set, sum))
     }
 

@@ -88,7 +88,7 @@ impl<S> Element<S> {
     pub fn multiply_add(&mut self, a: &Self, b: &Self) -> Result<(), Error> {
         self.set.same(&a.set)?;
         self.set.same(&b.set)?;
-        ffi::multiply_add(self.set.numbers(), &a.words, &b.words, &mut self.words)
+        ffi::multiply_add(self.set.raw(), &a.words, &b.words, &mut self.words)
     }
 }
 

@@ -39,14 +39,16 @@ pub enum Error {
     RandomExhausted,
     /// 10: a decrypted coefficient past mlen bits isn't zero.
     Tail,
-    /// 11: a line of six numbers is malformed.
+    /// 11: a line of six or seven numbers is malformed.
     Line,
     /// 14: an element of a given secret key has a zero top coefficient, that of t^(n - 1).
     TopCoefficient,
+    /// 18: the edition isn't 1 or 2.
+    Edition,
     /// A number that this package does not know: the library is newer than the package.
     Unknown(u32),
-    /// Two values that were made under different sets met in one call. No refusal has this meaning, since the library
-    /// is never asked.
+    /// Two values that were made under different sets, their editions apart, met in one call. No refusal has this
+    /// meaning, since the library is never asked.
     DifferentSets,
     /// The reader that was to give random octets failed.
     RandomSource(io::ErrorKind),
@@ -58,15 +60,16 @@ impl Error {
     ///
     /// ```
     /// let numbers = giophantus::Error::REFUSALS.map(|refusal| refusal.number().unwrap());
-    /// assert_eq!(numbers, [11, 1, 2, 3, 4, 5, 6, 7, 8, 14, 9, 10]);
+    /// assert_eq!(numbers, [11, 1, 2, 3, 4, 5, 18, 6, 7, 8, 14, 9, 10]);
     /// ```
-    pub const REFUSALS: [Error; 12] = [
+    pub const REFUSALS: [Error; 13] = [
         Error::Line,
         Error::Range,
         Error::Ring,
         Error::Degree,
         Error::Modulus,
         Error::MessageSize,
+        Error::Edition,
         Error::Length,
         Error::Padding,
         Error::Coefficient,
@@ -91,6 +94,7 @@ impl Error {
             Error::Tail => Some(10),
             Error::Line => Some(11),
             Error::TopCoefficient => Some(14),
+            Error::Edition => Some(18),
             Error::Unknown(number) => Some(number),
             Error::DifferentSets | Error::RandomSource(_) => None,
         }
@@ -140,8 +144,9 @@ impl Error {
             Error::Coefficient => "a coefficient is q or more, or l or more where a small one is expected",
             Error::RandomExhausted => "the random octets end before the last draw is complete",
             Error::Tail => "a decrypted coefficient past mlen bits isn't zero",
-            Error::Line => "a line of six numbers is malformed",
+            Error::Line => "a line of six or seven numbers is malformed",
             Error::TopCoefficient => "an element of the secret key has a zero top coefficient, that of t^(n - 1)",
+            Error::Edition => "the edition isn't 1 or 2",
             Error::Unknown(_) => "the library gave a number that this package does not know",
             Error::DifferentSets => "two values belong to different sets",
             Error::RandomSource(_) => "the source of random octets failed",
@@ -165,11 +170,14 @@ impl Error {
                 "give the same random octets again with more behind them; zeros alone never suffice for keys"
             }
             Error::Tail => "check the secret key, mlen, and that no more ciphertexts were added than the headroom",
-            Error::Line => "write l q n dX dr mlen as six decimal numbers with one space between",
+            Error::Line => {
+                "write l q n dX dr mlen, and the edition where it isn't 1, as decimal numbers with one space between"
+            }
             Error::TopCoefficient => {
                 "check that the key is undamaged and was made under this set; where it is from before keygen dropped \
                  such elements, make new keys"
             }
+            Error::Edition => "choose edition 1, or 2 for keys that are drawn as the second supplier draws them",
             Error::Unknown(_) => "use the package and the library of one release",
             Error::DifferentSets => "make both under one set; a blank is never added to counts",
             Error::RandomSource(_) => "check the source, or name another",
@@ -202,7 +210,7 @@ mod tests {
             assert_eq!(refusal.number().and_then(Error::from_number), Some(refusal));
         }
         assert_eq!(Error::from_number(0), None);
-        for number in [12, 13, 15, u32::MAX] {
+        for number in [12, 13, 15, 17, 19, u32::MAX] {
             assert_eq!(Error::from_number(number), Some(Error::Unknown(number)));
             assert_eq!(Error::Unknown(number).number(), Some(number));
         }

@@ -104,7 +104,7 @@ impl<S> SecretKey<S> {
     pub fn is_zero_of(&self, public_key: &PublicKey<S>) -> Result<bool, Error> {
         self.set.same(&public_key.set)?;
         workspace::with(self.set.work_words(), |work| {
-            ffi::is_zero(self.set.numbers(), &self.octets, &public_key.octets, work)
+            ffi::is_zero(self.set.raw(), &self.octets, &public_key.octets, work)
         })
     }
 
@@ -127,7 +127,7 @@ impl<S> SecretKey<S> {
         self.set.same(ciphertext.parameters())?;
         let mut message = vec![0; self.set.message_len()];
         workspace::with(self.set.work_words(), |work| {
-            ffi::decrypt(self.set.numbers(), &self.octets, ciphertext.as_ref(), &mut message, work)
+            ffi::decrypt(self.set.raw(), &self.octets, ciphertext.as_ref(), &mut message, work)
         })?;
         Ok(Message::judged(self.set, message))
     }
@@ -203,7 +203,7 @@ impl<S> PublicKey<S> {
         self.set.same(message.parameters())?;
         let mut ciphertext = vec![0; self.set.ciphertext_len()];
         let used = workspace::with(self.set.work_words(), |work| {
-            ffi::encrypt(self.set.numbers(), &self.octets, message.as_ref(), random, &mut ciphertext, work)
+            ffi::encrypt(self.set.raw(), &self.octets, message.as_ref(), random, &mut ciphertext, work)
         })?;
         Ok(Encrypted { ciphertext: Ciphertext::judged(self.set, ciphertext), used })
     }

@@ -40,6 +40,12 @@
 //! ([`Parameters::blank`]) and never as zeros, and isn't one of the summands: adding it to counts is
 //! [`Error::DifferentSets`].
 //!
+//! # Two suppliers' draws
+//!
+//! The set of six numbers is edition 1. [`Parameters::with_edition`] makes edition 2 of it, under which keys are drawn as the
+//! second supplier draws them: the same keys from the same octets, of which more are used. Nothing else depends on the
+//! [edition](Parameters::edition), and values of both fit together.
+//!
 //! # Types
 //!
 //! [`Parameters`] holds only sets that the library accepts. [`SecretKey`], [`PublicKey`], [`Ciphertext`] and [`Message`]

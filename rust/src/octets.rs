@@ -87,20 +87,20 @@ macro_rules! judged_octets_words {
     ) => {
         impl<S> $type<S> {
             fn judge(set: &Parameters<S>, octets: &[u8]) -> Result<(), Error> {
-                ffi::$from_octets(set.numbers(), octets, &mut vec![0; set.$words()])
+                ffi::$from_octets(set.raw(), octets, &mut vec![0; set.$words()])
             }
 
             $(#[$from_words])*
             pub fn from_words(set: &Parameters<S>, words: &[u32]) -> Result<Self, Error> {
                 let mut octets = vec![0; set.$len()];
-                ffi::$to_octets(set.numbers(), words, &mut octets)?;
+                ffi::$to_octets(set.raw(), words, &mut octets)?;
                 Ok(Self::judged(*set, octets))
             }
 
             $(#[$to_words])*
             pub fn to_words(&self) -> Vec<u32> {
                 let mut words = vec![0; self.set.$words()];
-                let converted = ffi::$from_octets(self.set.numbers(), &self.octets, &mut words);
+                let converted = ffi::$from_octets(self.set.raw(), &self.octets, &mut words);
                 converted.expect($crate::octets::WELL_FORMED);
                 words
             }
@@ -108,7 +108,7 @@ macro_rules! judged_octets_words {
     };
 }
 
-/// Equality of judged octets under one set; not for secret keys.
+/// Equality of judged octets under one set, its edition too; not for secret keys.
 macro_rules! judged_octets_equal {
     ($type:ident) => {
         impl<S> PartialEq for $type<S> {

@@ -14,7 +14,8 @@ use crate::workspace;
 /// The tag of a set that is chosen while the program runs.
 ///
 /// It is the default: `Parameters` is `Parameters<AnySet>`, `Ciphertext` is `Ciphertext<AnySet>`, and so on. Such values
-/// carry their set with them, and a call that is given values of two sets answers [`Error::DifferentSets`].
+/// carry their set with them, and a call that is given values of two sets answers [`Error::DifferentSets`], unless the sets
+/// differ in the [edition](Parameters::edition) alone.
 #[derive(Clone, Copy, Debug, PartialEq, Eq)]
 pub enum AnySet {}
 
@@ -61,9 +62,34 @@ pub enum AnySet {}
 ///     counts + blank
 /// }
 /// ```
+///
+/// A tag for keys that are drawn as the second supplier draws them names its edition:
+///
+/// ```
+/// use giophantus::{FixedSet, Parameters};
+///
+/// enum SecondSupplier {}
+/// impl FixedSet for SecondSupplier {
+///     const NUMBERS: [u32; 6] = [16, 2147483647, 4, 1, 1, 16];
+///     const EDITION: u32 = 2;
+/// }
+///
+/// assert_eq!(Parameters::<SecondSupplier>::fixed()?.edition(), 2);
+/// # Ok::<(), giophantus::Error>(())
+/// ```
 pub trait FixedSet {
     /// ℓ, q, n, dX, dr, mlen.
     const NUMBERS: [u32; 6];
+    /// The edition, 1 or 2: [`Parameters::edition`].
+    const EDITION: u32 = FIRST_EDITION;
+}
+
+/// The edition of a set of six numbers.
+const FIRST_EDITION: u32 = 1;
+
+/// Six numbers, and an edition behind them.
+fn in_edition([l, q, n, dx, dr, mlen]: [u32; 6], edition: u32) -> [u32; 7] {
+    [l, q, n, dx, dr, mlen, edition]
 }
 
 /// A parameter set that the library has accepted. There is no other way to make one.
@@ -88,16 +114,33 @@ pub struct Parameters<S = AnySet> {
 }
 
 impl Parameters {
-    /// The set of these six numbers, if the library accepts it: refusals 1 to 5.
+    /// The set of these six numbers in edition 1, if the library accepts it: refusals 1 to 5.
     pub fn new(l: u32, q: u32, n: u32, dx: u32, dr: u32, mlen: u32) -> Result<Self, Error> {
-        Self::accepted([l, q, n, dx, dr, mlen])
+        Self::try_from([l, q, n, dx, dr, mlen])
+    }
+
+    /// The same set in this edition: refusal 18 where it isn't 1 or 2. A set with a tag has the edition of its tag.
+    ///
+    /// ```
+    /// use giophantus::{Error, Parameters};
+    ///
+    /// let first = Parameters::new(4, 1459, 2, 1, 1, 4)?;
+    /// let second = first.with_edition(2)?;
+    /// assert_eq!((first.edition(), second.edition()), (1, 2));
+    /// assert_eq!((first.keygen_fixed_octets(), second.keygen_fixed_octets()), (10, 14));
+    ///
+    /// assert_eq!(first.with_edition(3), Err(Error::Edition));
+    /// # Ok::<(), Error>(())
+    /// ```
+    pub fn with_edition(self, edition: u32) -> Result<Self, Error> {
+        Self::accepted(Numbers { edition, ..self.numbers })
     }
 }
 
 impl<S: FixedSet> Parameters<S> {
-    /// The set that the tag stands for, if the library accepts it: refusals 1 to 5.
+    /// The set that the tag stands for, if the library accepts it: refusals 1 to 5 and 18.
     pub fn fixed() -> Result<Self, Error> {
-        Self::accepted(S::NUMBERS)
+        Self::accepted(in_edition(S::NUMBERS, S::EDITION).into())
     }
 }
 
@@ -108,39 +151,72 @@ impl<S> Parameters<S> {
         Ok(Parameters { numbers, bound, headroom, lengths, tag: PhantomData })
     }
 
-    /// The six numbers: ℓ, q, n, dX, dr, mlen.
-    pub fn numbers(&self) -> [u32; 6] {
+    /// The seven numbers: ℓ, q, n, dX, dr, mlen, edition.
+    pub fn numbers(&self) -> [u32; 7] {
+        self.numbers.into()
+    }
+
+    /// The numbers as the library takes them.
+    pub(crate) fn raw(&self) -> Numbers {
         self.numbers
     }
 
     /// ℓ: a count is below it, and totals are modulo ℓ.
     pub fn l(&self) -> u32 {
-        self.numbers[0]
+        self.numbers.l
     }
 
     /// q, the modulus.
     pub fn q(&self) -> u32 {
-        self.numbers[1]
+        self.numbers.q
     }
 
     /// n, the number of coefficients of a ring element.
     pub fn n(&self) -> u32 {
-        self.numbers[2]
+        self.numbers.n
     }
 
     /// dX, the degree of a public key.
     pub fn dx(&self) -> u32 {
-        self.numbers[3]
+        self.numbers.dx
     }
 
     /// dr, the degree of the polynomial that encryption draws.
     pub fn dr(&self) -> u32 {
-        self.numbers[4]
+        self.numbers.dr
     }
 
     /// mlen, the length of a message in bits.
     pub fn mlen(&self) -> u32 {
-        self.numbers[5]
+        self.numbers.mlen
+    }
+
+    /// The edition, by whose rule keys are drawn: 1, or 2 for the second supplier's draws. In edition 2 the n
+    /// coefficients of a public key's constant are drawn too, after the others, and thrown away.
+    ///
+    /// From the same octets both editions make the same keys; only how many octets are used, how many groups are dropped
+    /// and whether the octets suffice differ. Nothing but key generation depends on the edition, so values of sets that
+    /// differ in it alone may meet in one call, whose result has the set of the value that it was called on. `==` of
+    /// sets, and of values, tells the editions apart.
+    ///
+    /// ```
+    /// use giophantus::{Error, Message, Parameters};
+    ///
+    /// let first = Parameters::new(4, 1459, 2, 1, 1, 4)?;
+    /// let second = first.with_edition(2)?;
+    /// let random = [0x09, 0x04, 5, 0, 7, 0, 100, 0, 1, 0, 0, 0, 0, 0];
+    /// let (one, other) = (first.keygen(&random)?, second.keygen(&random)?);
+    /// assert_eq!(one.public_key.as_ref(), other.public_key.as_ref());
+    /// assert_eq!((one.used.octets, other.used.octets), (10, 14));
+    /// assert_eq!(second.keygen(&random[..13]).unwrap_err(), Error::RandomExhausted);
+    ///
+    /// let message = Message::from_counts(&first, &[2, 3])?;
+    /// let ciphertext = other.public_key.encrypt(&message, &[0; 18])?.ciphertext;
+    /// assert_eq!(one.secret_key.decrypt(&ciphertext)?, message);
+    /// # Ok::<(), Error>(())
+    /// ```
+    pub fn edition(&self) -> u32 {
+        self.numbers.edition
     }
 
     /// b, the bits of a count: ℓ is 2 to the power b.
@@ -181,7 +257,7 @@ impl<S> Parameters<S> {
         self.mlen() == 0
     }
 
-    /// The same set with mlen 0, under which a blank field goes out. Keys of one serve the other.
+    /// The same set with mlen 0, under which a blank field goes out, in the same edition. Keys of one serve the other.
     ///
     /// ```
     /// use giophantus::{Message, Parameters};
@@ -193,7 +269,7 @@ impl<S> Parameters<S> {
     /// ```
     pub fn blank(&self) -> Parameters {
         let mut blank = self.any();
-        blank.numbers[5] = 0;
+        blank.numbers.mlen = 0;
         blank.lengths.message = 0;
         blank
     }
@@ -240,8 +316,8 @@ impl<S> Parameters<S> {
     }
 
     /// The fixed part of the random octets of key generation, used where nothing is dropped:
-    /// 2 × ⌈n × b / 8⌉ + qlen × (N(dX) - 1) × n, where N(d) is (d + 1)(d + 2) / 2. For each group that is dropped it uses
-    /// qlen more, and for each element ⌈n × b / 8⌉ more ([`RandomUse`](crate::RandomUse)).
+    /// 2 × ⌈n × b / 8⌉ + qlen × (N(dX) - 2 + edition) × n, where N(d) is (d + 1)(d + 2) / 2. For each group that is
+    /// dropped it uses qlen more, and for each element ⌈n × b / 8⌉ more ([`RandomUse`](crate::RandomUse)).
     ///
     /// ```
     /// let set = giophantus::Parameters::new(4, 1459, 2, 1, 1, 4)?;
@@ -284,9 +360,9 @@ impl<S> Parameters<S> {
         self.lengths.work
     }
 
-    /// Success where two values belong to one set.
+    /// Success where two values belong to one set, its edition apart, which matters at key generation alone.
     pub(crate) fn same(&self, other: &Self) -> Result<(), Error> {
-        if self == other {
+        if self.numbers == (Numbers { edition: self.edition(), ..other.numbers }) {
             Ok(())
         } else {
             Err(Error::DifferentSets)
@@ -338,9 +414,10 @@ impl<S> Parameters<S> {
         self.keygen(&random::read(self, &self.keygen_draws(), source)?)
     }
 
-    /// The draws of key generation: u_x and u_y, then the elements of the public key but the constant.
+    /// The draws of key generation: u_x and u_y, then the elements of the public key, in edition 1 without the constant.
     fn keygen_draws(&self) -> Draws {
-        Draws { secret: 2, below_q: self.public_key_words() - self.places(), noise: 0 }
+        let elements = monomials(self.dx()) + self.edition() as usize - 2;
+        Draws { secret: 2, below_q: elements * self.places(), noise: 0 }
     }
 
     /// The draws of an encryption: the elements of r, then the small elements of e.
@@ -414,35 +491,56 @@ impl<S> fmt::Debug for Parameters<S> {
             .field("dx", &self.dx())
             .field("dr", &self.dr())
             .field("mlen", &self.mlen())
+            .field("edition", &self.edition())
             .finish()
     }
 }
 
-/// The six numbers with one space between, as the program roomsheet reads them.
+/// The six numbers with one space between, and in edition 2 the edition as a seventh, as the program roomsheet reads them:
+/// the same set is read back.
 impl<S> fmt::Display for Parameters<S> {
     fn fmt(&self, f: &mut fmt::Formatter<'_>) -> fmt::Result {
-        let [l, q, n, dx, dr, mlen] = self.numbers;
-        write!(f, "{l} {q} {n} {dx} {dr} {mlen}")
+        let [l, q, n, dx, dr, mlen, edition] = self.numbers();
+        write!(f, "{l} {q} {n} {dx} {dr} {mlen}")?;
+        match edition {
+            FIRST_EDITION => Ok(()),
+            _ => write!(f, " {edition}"),
+        }
     }
 }
 
+/// Six numbers are a set of edition 1.
 impl TryFrom<[u32; 6]> for Parameters {
     type Error = Error;
 
     fn try_from(numbers: [u32; 6]) -> Result<Self, Error> {
-        Self::accepted(numbers)
+        Self::try_from(in_edition(numbers, FIRST_EDITION))
     }
 }
 
-/// A line as the program roomsheet reads it, without its newline: six decimal numbers with one space between, no sign, no
-/// needless leading zero, at most 80 octets. Refusal 11 where it is malformed, then 1 to 5.
+/// The seventh number is the edition.
+impl TryFrom<[u32; 7]> for Parameters {
+    type Error = Error;
+
+    fn try_from(numbers: [u32; 7]) -> Result<Self, Error> {
+        Self::accepted(numbers.into())
+    }
+}
+
+/// A line as the program roomsheet reads it, without its newline: six decimal numbers, or seven with the edition, with one
+/// space between, no sign, no needless leading zero, at most 80 octets. Six numbers are edition 1. Refusal 11 where it is
+/// malformed, then 1 to 5 and 18.
 ///
 /// ```
 /// use giophantus::{Error, Parameters};
 ///
 /// let set: Parameters = "4 65521 2 1 1 4".parse()?;
+/// assert_eq!(set, "4 65521 2 1 1 4 1".parse()?);
 /// assert_eq!(set.to_string(), "4 65521 2 1 1 4");
+/// assert_eq!(set.with_edition(2)?.to_string(), "4 65521 2 1 1 4 2");
+///
 /// assert_eq!("4 1459 2 1 1".parse::<Parameters>(), Err(Error::Line));
+/// assert_eq!("4 1459 2 1 1 4 3".parse::<Parameters>(), Err(Error::Edition));
 /// # Ok::<(), Error>(())
 /// ```
 impl FromStr for Parameters {
@@ -452,15 +550,12 @@ impl FromStr for Parameters {
         if line.len() > 80 {
             return Err(Error::Line);
         }
-        let mut words = line.split(' ');
-        let mut numbers = [0; 6];
-        for number in &mut numbers {
-            *number = words.next().and_then(number_from).ok_or(Error::Line)?;
+        let numbers: Option<Vec<u32>> = line.split(' ').map(number_from).collect();
+        match numbers.ok_or(Error::Line)?[..] {
+            [l, q, n, dx, dr, mlen] => Self::try_from([l, q, n, dx, dr, mlen]),
+            [l, q, n, dx, dr, mlen, edition] => Self::try_from([l, q, n, dx, dr, mlen, edition]),
+            _ => Err(Error::Line),
         }
-        if words.next().is_some() {
-            return Err(Error::Line);
-        }
-        Self::accepted(numbers)
     }
 }
 
@@ -488,8 +583,15 @@ mod tests {
             "4 1459 2 1 1 4 ",
             " 4 1459 2 1 1 4",
             "4  1459 2 1 1 4",
-            "4 1459 2 1 1 4 0",
+            "4 1459 2 1 1 4 2 ",
+            "4 1459 2 1 1 4  2",
+            "4 1459 2 1 1 4 01",
+            "4 1459 2 1 1 4 +2",
+            "4 1459 2 1 1 4 4294967297",
+            "4 1459 2 1 1 4 2 0",
+            "4 1459 2 1 1 4 1 1 1",
             "4 1459 2 1 1 4\n",
+            "4 1459 2 1 1 4 2\n",
             "4 1459 2 1 1 +4",
             "4 1459 2 1 1 -4",
             "4 01459 2 1 1 4",
@@ -505,6 +607,37 @@ mod tests {
         assert_eq!("4 4294967295 2 1 1 4".parse::<Parameters>(), Err(Error::Modulus));
         assert_eq!("0 0 0 0 0 0".parse::<Parameters>(), Err(Error::Range));
         assert!("4 1459 2 1 1 0".parse::<Parameters>().is_ok());
+    }
+
+    /// A set that is refused by 1 to 5 is refused so whatever its edition is.
+    #[test]
+    fn a_seventh_number_is_the_edition() {
+        for (line, error) in [
+            ("4 1459 2 1 1 4 0", Error::Edition),
+            ("4 1459 2 1 1 4 3", Error::Edition),
+            ("4 1459 2 1 1 4 4294967295", Error::Edition),
+            ("4 1455 2 1 1 4 3", Error::Modulus),
+            ("4 1459 2 1 1 3 3", Error::MessageSize),
+            ("4 1455 2 1 1 4 2", Error::Modulus),
+            ("0 0 0 0 0 0 0", Error::Range),
+        ] {
+            assert_eq!(line.parse::<Parameters>(), Err(error), "{line}");
+        }
+        for (line, shown, edition) in [
+            ("4 1459 2 1 1 4", "4 1459 2 1 1 4", 1),
+            ("4 1459 2 1 1 4 1", "4 1459 2 1 1 4", 1),
+            ("4 1459 2 1 1 4 2", "4 1459 2 1 1 4 2", 2),
+        ] {
+            let set: Parameters = line.parse().unwrap();
+            assert_eq!(set.numbers(), [4, 1459, 2, 1, 1, 4, edition]);
+            assert_eq!((set.bound(), set.headroom(), set.edition()), (1455, 1, edition));
+            assert_eq!(set.to_string(), shown);
+            assert_eq!(shown.parse(), Ok(set));
+            assert_eq!(Parameters::try_from(set.numbers()), Ok(set));
+            assert_eq!(Parameters::try_from([4, 1459, 2, 1, 1, 4]).unwrap().with_edition(edition), Ok(set));
+        }
+        // The longest line of seven numbers has 76 octets.
+        assert_eq!(["4294967295"; 7].join(" ").parse::<Parameters>(), Err(Error::Range));
     }
 
     #[test]
@@ -532,18 +665,43 @@ mod tests {
             ];
             assert_eq!(got, lengths, "{line}");
             assert_eq!(set.work_words(), 8 * set.places());
+
+            let second = set.with_edition(2).unwrap();
+            assert_eq!((second.lengths, second.bound, second.headroom), (set.lengths, set.bound, set.headroom));
+            assert_eq!(second.keygen_fixed_octets(), set.keygen_fixed_octets() + set.element_len());
+            assert_eq!(second.encryption_fixed_octets(), set.encryption_fixed_octets());
         }
     }
 
     #[test]
     fn the_blank_set_is_the_accepted_one() {
-        let set = Parameters::new(8, 2147483647, 7, 1, 2, 15).unwrap();
-        let [l, q, n, dx, dr, _] = set.numbers();
-        let accepted = Parameters::new(l, q, n, dx, dr, 0).unwrap();
-        let blank = set.blank();
-        assert_eq!(blank, accepted);
-        assert_eq!(blank.lengths, accepted.lengths);
-        assert_eq!((blank.bound, blank.headroom), (accepted.bound, accepted.headroom));
-        assert!(blank.is_blank() && !set.is_blank());
+        for edition in [1, 2] {
+            let set = Parameters::try_from([8, 2147483647, 7, 1, 2, 15, edition]).unwrap();
+            let accepted = Parameters::try_from([8, 2147483647, 7, 1, 2, 0, edition]).unwrap();
+            let blank = set.blank();
+            assert_eq!(blank, accepted);
+            assert_eq!(blank.lengths, accepted.lengths);
+            assert_eq!((blank.bound, blank.headroom), (accepted.bound, accepted.headroom));
+            assert!(blank.is_blank() && !set.is_blank());
+        }
+    }
+
+    /// `==` compares seven numbers; what meets in one call must agree in all but the edition.
+    #[test]
+    fn sets_that_differ_in_the_edition_alone() {
+        let set = Parameters::new(4, 65521, 2, 1, 1, 4).unwrap();
+        let second = set.with_edition(2).unwrap();
+        assert_ne!(set, second);
+        assert_eq!(second.with_edition(1), Ok(set));
+        assert_eq!((set.same(&second), second.same(&set)), (Ok(()), Ok(())));
+        for other in ["8 65521 2 1 1 3", "4 65537 2 1 1 4", "4 65521 3 1 1 4", "4 65521 2 1 1 2"] {
+            let other: Parameters = other.parse().unwrap();
+            assert_eq!(
+                (second.same(&other), other.same(&second)),
+                (Err(Error::DifferentSets), Err(Error::DifferentSets))
+            );
+        }
+        let shown = "Parameters { l: 4, q: 65521, n: 2, dx: 1, dr: 1, mlen: 4, edition: 2 }";
+        assert_eq!(format!("{second:?}"), shown);
     }
 }

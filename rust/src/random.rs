@@ -15,6 +15,9 @@ use crate::parameters::Parameters;
 /// coefficient, that of t^(n - 1), is zero is dropped whole and the next octets are taken: one in ℓ. Encryption drops no
 /// elements.
 ///
+/// In edition 2 key generation goes on to draw what it throws away ([`Parameters::edition`]): these octets are used, and
+/// groups that are dropped among them are counted.
+///
 /// `octets` is qlen × `dropped_groups` + ⌈n × b / 8⌉ × `dropped_elements` more than
 /// [`Parameters::keygen_fixed_octets`] for keys, and than [`Parameters::encryption_fixed_octets`] for a ciphertext.
 ///
@@ -181,6 +184,18 @@ mod tests {
         let source: &[u8] = &[0, 0xF3, 9, 1, 4, 5, 0, 0, 3, 99, 99];
         let octets = read(&set(), &Draws { secret: 2, below_q: 1, noise: 2 }, source).unwrap();
         assert_eq!(octets, source[..9]);
+    }
+
+    /// As many as the library says that it used, in both editions; 1459 stands before the first draw of the constant too.
+    #[test]
+    fn reads_what_each_edition_uses() {
+        let source: &[u8] = &[0, 9, 4, 5, 0, 7, 0, 0xB3, 5, 0x64, 0, 1, 0, 0xB3, 5, 1, 0, 2, 0, 0xB3, 5];
+        for (edition, octets) in [(1, 13), (2, 19)] {
+            let set = set().with_edition(edition).unwrap();
+            let mut rest = source;
+            assert_eq!(set.keygen_from(&mut rest).unwrap().used, set.keygen(source).unwrap().used);
+            assert_eq!(rest, &source[octets..]);
+        }
     }
 
     #[test]

@@ -12,6 +12,7 @@ use giophantus::Error;
 
 const SET: &str = "4 65521 2 1 1 4";
 const SET_A: &str = "4 1459 2 1 1 4";
+const SET_A_EDITION_2: &str = "4 1459 2 1 1 4 2";
 
 /// A directory of its own for a test.
 struct Place(PathBuf);
@@ -209,6 +210,56 @@ fn what_keygen_drops_is_said() {
     assert_eq!(said(&output), line);
 }
 
+/// Worked case 2 in edition 2: the same keys, with n further draws behind the others, of which one is dropped here.
+#[test]
+fn keygen_in_edition_2() {
+    let place = Place::worked();
+    let octets = [9, 4, 5, 0, 7, 0, 0x64, 0, 1, 0, 0xB3, 5, 1, 0, 2, 0];
+    let keygen = ["keygen", "--secret-key", "s", "--public-key", "p", "--random", "octets", "--set", SET_A_EDITION_2];
+    for few in [10, 11, 12, 14, 15] {
+        place.write("octets", &octets[..few]);
+        place.bad(&keygen, 9, "octets: refusal 9");
+        assert!(!place.has("s") && !place.has("p"));
+    }
+    place.write("octets", &octets);
+    let line = "giophantus: 16 random octets used, 1 group of 2 octets and 0 elements of 1 octet dropped\n";
+    assert_eq!(said(&place.run(&keygen)), line);
+    assert_eq!((place.read("s"), place.read("p")), (place.read("secret"), place.read("public")));
+
+    // From standard input, and with the edition that six numbers have.
+    let keygen = ["keygen", "--secret-key", "s", "--public-key", "p", "--force", "--random", "-", "--set"];
+    assert_eq!(said(&place.run_with(&[&keygen[..], &[SET_A_EDITION_2]].concat(), &octets)), line);
+    let line = "giophantus: 10 random octets used, 0 groups of 2 octets and 0 elements of 1 octet dropped\n";
+    for set in [SET_A, "4 1459 2 1 1 4 1"] {
+        assert_eq!(said(&place.run_with(&[&keygen[..], &[set]].concat(), &octets)), line);
+        assert_eq!((place.read("s"), place.read("p")), (place.read("secret"), place.read("public")));
+    }
+}
+
+/// The other commands do the same in both editions.
+#[test]
+fn files_of_one_edition_serve_the_other() {
+    let place = Place::worked();
+    place.write("element", &[1, 0, 2, 0]);
+    let convert = |kind| vec!["convert", "--kind", kind, "--to", "words"];
+    for arguments in [
+        vec!["encrypt", "--public-key", "public", "--counts", "2 3", "--random", "random"],
+        vec!["decrypt", "--secret-key", "secret", "--counts", "sent"],
+        vec!["is-zero", "--secret-key", "secret", "--public-key", "public"],
+        vec!["add", "sent", "sent"],
+        vec!["multiply-add", "element", "element", "element"],
+        [convert("ciphertext"), vec!["sent"]].concat(),
+        [convert("secret-key"), vec!["secret"]].concat(),
+    ] {
+        let answer = |set| {
+            let output = place.run(&[&arguments[..], &["--set", set]].concat());
+            assert_eq!(status(&output), 0, "{}", said(&output));
+            (output.stdout.clone(), said(&output))
+        };
+        assert_eq!(answer(SET_A), answer(SET_A_EDITION_2), "{arguments:?}");
+    }
+}
+
 /// Neither where the octets come from the system, nor with a refusal.
 #[test]
 fn nothing_is_said_to_be_used() {
@@ -240,11 +291,13 @@ fn a_blank_goes_out_under_mlen_0() {
     assert_eq!(place.good(&["decrypt", "--set", blank, "--secret-key", "secret", "c"]), "");
     let wrong = ["encrypt", "--set", SET_A, "--public-key", "public", "--blank", "--out", "wrong"];
     place.bad(&wrong, 6, "--blank goes out under the set \"4 1459 2 1 1 0\"");
+    let wrong = ["encrypt", "--set", SET_A_EDITION_2, "--public-key", "public", "--blank", "--out", "wrong"];
+    place.bad(&wrong, 6, "--blank goes out under the set \"4 1459 2 1 1 0 2\"");
     assert!(!place.has("wrong"));
 }
 
 /// Sets that are refused, each with its number.
-const REFUSED_SETS: [(&str, i32); 8] = [
+const REFUSED_SETS: [(&str, i32); 17] = [
     ("3 1459 2 1 1 4", 1),
     ("4 1459 1 1 1 4", 2),
     ("4 1459 2 3 1 4", 3),
@@ -253,6 +306,15 @@ const REFUSED_SETS: [(&str, i32); 8] = [
     ("4 1459 2 1 1", 11),
     ("4 1459 2 1 1 04", 11),
     ("", 11),
+    ("4 1459 2 1 1 4 0", 18),
+    ("4 1459 2 1 1 4 3", 18),
+    ("4 1459 2 1 1 4 4294967295", 18),
+    ("4 1455 2 1 1 4 3", 4),
+    ("4 1459 2 1 1 3 3", 5),
+    ("4 1459 2 1 1 4 01", 11),
+    ("4 1459 2 1 1 4 4294967296", 11),
+    ("4 1459 2 1 1 4 ", 11),
+    ("4 1459 2 1 1 4 2 2", 11),
 ];
 
 #[test]
@@ -470,6 +532,18 @@ fn limits_are_printed() {
         assert!(text.lines().any(|one| one == line), "{text}");
     }
     assert!(place.good(&["limits", "--set", "4 65521 2 1 1 0"]).contains("blank"));
+
+    assert!(text.starts_with("set                  4 65521 2 1 1 4\nedition              1\n"), "{text}");
+    assert_eq!(place.good(&["limits", "--set", "4 65521 2 1 1 4 1"]), text);
+    let second = place.good(&["limits", "--set", "4 65521 2 1 1 4 2"]);
+    let differ: Vec<(&str, &str)> = text.lines().zip(second.lines()).filter(|(one, other)| one != other).collect();
+    let others: Vec<&str> = differ.iter().map(|(_, other)| *other).collect();
+    let expected = [
+        "set                  4 65521 2 1 1 4 2",
+        "edition              2",
+        "keygen uses          14 random octets, and 2 for each group and 1 for each element dropped",
+    ];
+    assert_eq!(others, expected);
 }
 
 #[test]

@@ -97,7 +97,8 @@ fn random_rows() -> Vec<(Parameters, Vec<String>)> {
 /// The draws of a coefficient, for keys and for a ciphertext.
 fn draws(set: &Parameters) -> [u32; 2] {
     let (n, dx, dr) = (set.n(), set.dx(), set.dr());
-    [((dx + 1) * (dx + 2) / 2 - 1) * n, (dr + 1) * (dr + 2) / 2 * n]
+    let constant = if set.edition() == 2 { n } else { 0 };
+    [((dx + 1) * (dx + 2) / 2 - 1) * n + constant, (dr + 1) * (dr + 2) / 2 * n]
 }
 
 /// How likely it is that a group is kept: q / 2^k, where q has k bits.
@@ -166,6 +167,44 @@ fn the_lines_about_random_octets_add_up() {
     assert!(guide.contains(&format!("{octets} = {} + 2 × 1 + 1 × 1,", set.keygen_fixed_octets())));
     let fixed = set.encryption_fixed_octets();
     assert!(guide.contains(&format!("{} = {fixed} + 2 × 1.", fixed + 2)));
+}
+
+#[test]
+fn lines_of_six_and_of_seven_numbers() {
+    let rows = rows(&guide(), "| line | roomsheet's answer");
+    assert!(rows.len() >= 9);
+    for row in rows {
+        let answer = match row[0].trim_matches('`').parse::<Parameters>() {
+            Ok(set) => format!("`0 {} {}`", set.bound(), set.headroom()),
+            Err(error) => format!("`{}`", error.number().unwrap()),
+        };
+        assert_eq!(row[1], answer, "{}", row[0]);
+    }
+}
+
+/// The octets that the guide writes in hexadecimal between these words.
+fn octets_between(guide: &str, before: &str, after: &str) -> Vec<u8> {
+    let (_, rest) = guide.split_once(before).unwrap_or_else(|| panic!("`{before}` is missing"));
+    let (octets, _) = rest.split_once(after).unwrap_or_else(|| panic!("`{after}` is missing"));
+    octets.split_whitespace().map(|octet| u8::from_str_radix(octet, 16).unwrap()).collect()
+}
+
+#[test]
+fn the_second_supplier() {
+    let guide = guide();
+    let first: Parameters = "4 1459 2 1 1 4".parse().unwrap();
+    let second = first.with_edition(2).unwrap();
+    let mut random = octets_between(&guide, "the octets `", "` give keys in edition 1");
+    assert_eq!(first.keygen(&random).unwrap().used.octets, random.len());
+    assert_eq!(second.keygen(&random).unwrap_err().number(), Some(9));
+    random.extend(octets_between(&guide, "With\n`", "` behind them"));
+    let [one, two] = [first, second].map(|set| set.keygen(&random).unwrap());
+    assert_eq!(one.public_key.as_ref(), two.public_key.as_ref());
+    assert_eq!(one.secret_key.as_ref(), two.secret_key.as_ref());
+    assert_eq!((two.used.dropped_groups, two.used.dropped_elements), (1, 0));
+    let (octets, fixed) = (two.used.octets, second.keygen_fixed_octets());
+    assert!(guide
+        .contains(&format!("Edition 1 uses {} octets; edition 2 uses {octets} = {fixed} + 2 × 1,", one.used.octets)));
 }
 
 /// How many elements of a secret key are dropped on average, and how many secret keys of before have one.

@@ -30,8 +30,8 @@ impl Read for Octets {
 }
 
 /// Every ℓ, every pair of degrees, qlen 1 to 4, q just below and just above a power of two, messages of no, some and all
-/// places.
-const SETS: [&str; 13] = [
+/// places, both editions.
+const SETS: [&str; 17] = [
     "2 73 2 1 1 2",
     "2 251 3 1 1 2",
     "4 1459 2 1 1 4",
@@ -45,6 +45,10 @@ const SETS: [&str; 13] = [
     "16 2147483647 64 1 1 256",
     "16 52129279 8 1 1 16",
     "2 2147483647 30 2 1 0",
+    "4 1459 2 1 1 4 2",
+    "4 65537 2 1 1 4 2",
+    "4 2147483647 9 2 1 18 2",
+    "8 8388593 3 1 1 6 2",
 ];
 
 fn sets() -> impl Iterator<Item = Parameters> {
@@ -152,6 +156,35 @@ fn what_was_dropped_is_counted() {
     assert!(most_elements > 1);
 }
 
+/// From the same octets: equal keys and dropped elements. Edition 2 uses n further draws, and their dropped groups.
+#[test]
+fn both_editions_make_the_same_keys() {
+    let mut more_dropped = 0;
+    for (seed, set) in sets().enumerate() {
+        let [first, second] = [1, 2].map(|edition| set.with_edition(edition).unwrap());
+        let mut source = vec![0; 1 << 16];
+        Octets(seed as u64).read_exact(&mut source).unwrap();
+        let [one, two] = [first.keygen(&source).unwrap(), second.keygen(&source).unwrap()];
+        assert_eq!(one.secret_key.as_ref(), two.secret_key.as_ref());
+        assert_eq!(one.public_key.as_ref(), two.public_key.as_ref());
+        assert_eq!(one.used.dropped_elements, two.used.dropped_elements);
+        let dropped = too_large(&set, &source[one.used.octets..two.used.octets]);
+        assert_eq!(two.used.dropped_groups - one.used.dropped_groups, dropped, "{set}");
+        let further = set.element_len() + set.coefficient_len() * dropped;
+        assert_eq!(two.used.octets - one.used.octets, further, "{set}");
+        more_dropped += dropped;
+
+        // One octet less: spent in edition 2, and as before in edition 1.
+        let fewer = &source[..two.used.octets - 1];
+        assert_eq!(second.keygen(fewer).unwrap_err(), Error::RandomExhausted);
+        assert_eq!(first.keygen(fewer).unwrap().used, one.used);
+        // Whatever the further draws are, the keys are those of edition 1.
+        let zeros = [&source[..one.used.octets], &vec![0; set.element_len()]].concat();
+        assert_eq!(second.keygen(&zeros).unwrap().public_key, two.public_key);
+    }
+    assert!(more_dropped > 0);
+}
+
 /// Each bit of an element alone: it is kept where the bit belongs to the top coefficient, and else dropped whole, as u_x
 /// and as u_y, from a slice and from a reader.
 #[test]
@@ -196,14 +229,15 @@ fn as_many_elements_are_dropped_as_l_makes_likely() {
 }
 
 /// draws × (2^k / q - 1) on average, where q has k bits: hardly any just below a power of two, one for each draw just
-/// above. The limits of the second and third set are five standard deviations away; draws × (1 - q / 2^k) would be 2000
-/// and 3571 there.
+/// above. The limits of the second to fourth set are five standard deviations away; draws × (1 - q / 2^k) would be 2000,
+/// 3000 and 3571 there. In edition 2 there are half as many draws again.
 #[test]
 fn as_many_groups_are_dropped_as_q_makes_likely() {
     let mut octets = Octets(12);
     for (line, least, most) in [
         ("4 65521 2 1 1 4", 0, 10),
         ("4 65537 2 1 1 4", 3550, 4450),
+        ("4 65537 2 1 1 4 2", 5450, 6550),
         ("16 52129279 8 1 1 16", 4200, 5000),
         ("16 2147483647 8 1 1 32", 0, 0),
     ] {
@@ -527,6 +561,44 @@ fn values_of_two_sets_never_meet() {
     assert_eq!(keys.secret_key.decrypt(&counts).unwrap(), zeros);
 }
 
+/// A key of edition 2 serves a laboratory whose set says edition 1, and the other way round. What a call gives has the set
+/// of the value that it was called on.
+#[test]
+fn values_of_both_editions_meet() {
+    let mut octets = Octets(6);
+    let first = Parameters::new(4, 65521, 2, 1, 1, 4).unwrap();
+    let second = first.with_edition(2).unwrap();
+    for (office, laboratory) in [(first, second), (second, first)] {
+        let keys = office.keygen_from(&mut octets).unwrap();
+        let public_key = PublicKey::try_from((&laboratory, keys.public_key.as_ref())).unwrap();
+        assert_ne!(public_key, keys.public_key);
+        assert!(keys.secret_key.is_zero_of(&public_key).unwrap());
+        let counts = Message::from_counts(&laboratory, &[1, 0]).unwrap();
+        let [one, other] =
+            [&public_key, &keys.public_key].map(|key| key.encrypt(&counts, &[5; 99]).unwrap().ciphertext);
+        assert_eq!(one.as_ref(), other.as_ref());
+        assert_eq!((one.parameters(), other.parameters()), (&laboratory, &office));
+        let sum = Ciphertext::try_sum([&one, &other, &one]).unwrap().unwrap();
+        assert_eq!(sum.parameters(), &laboratory);
+        let total = keys.secret_key.decrypt(&sum).unwrap();
+        assert_eq!((total.to_counts(), total.parameters()), (vec![3, 0], &office));
+
+        let [a, b] = [office, laboratory].map(|set| Element::from_words(&set, &[1, 2]).unwrap());
+        let mut c = Element::zero(&laboratory);
+        c.multiply_add(&a, &b).unwrap();
+        assert_eq!(c, Element::from_words(&laboratory, &[5, 4]).unwrap());
+
+        // A blank is a blank in either edition.
+        let blank = keys.public_key.blank();
+        assert_eq!(blank.parameters().edition(), office.edition());
+        assert_eq!(blank.encrypt(&counts, &[5; 99]).unwrap_err(), Error::DifferentSets);
+        let nothing = Message::from_counts(&laboratory.blank(), &[]).unwrap();
+        let sent = blank.encrypt(&nothing, &[5; 99]).unwrap().ciphertext;
+        assert!(keys.secret_key.blank().decrypt(&sent).unwrap().is_blank());
+        assert_eq!(&one + &sent, Err(Error::DifferentSets));
+    }
+}
+
 /// Four counts of 0 to 15. A tag needs nothing but its numbers.
 enum Trial {}
 
@@ -558,6 +630,34 @@ fn with_a_tag_octets_alone_suffice() {
 
     assert_eq!(Ciphertext::<Trial>::try_from(&[0; 3][..]), Err(Error::Length));
     assert_eq!(Ciphertext::<Unfit>::try_from(&[0; 192][..]).unwrap_err(), Error::Modulus);
+}
+
+enum SecondSupplier {}
+
+impl FixedSet for SecondSupplier {
+    const NUMBERS: [u32; 6] = Trial::NUMBERS;
+    const EDITION: u32 = 2;
+}
+
+enum NoEdition {}
+
+impl FixedSet for NoEdition {
+    const NUMBERS: [u32; 6] = Trial::NUMBERS;
+    const EDITION: u32 = 3;
+}
+
+#[test]
+fn a_tag_names_its_edition() {
+    assert_eq!(Parameters::<Trial>::fixed().unwrap().edition(), 1);
+    let set = Parameters::<SecondSupplier>::fixed().unwrap();
+    assert_eq!(set.any(), "16 52129279 8 1 1 16 2".parse().unwrap());
+    let keys = set.keygen_from(Octets(5)).unwrap();
+    let same = Parameters::<Trial>::fixed().unwrap().keygen_from(Octets(5)).unwrap();
+    assert_eq!(keys.public_key.as_ref(), same.public_key.as_ref());
+    assert!(keys.used.octets > same.used.octets);
+    let public_key = PublicKey::<SecondSupplier>::try_from(same.public_key.as_ref()).unwrap();
+    assert_eq!(public_key, keys.public_key);
+    assert_eq!(Ciphertext::<NoEdition>::try_from(&[0; 192][..]).unwrap_err(), Error::Edition);
 }
 
 #[test]

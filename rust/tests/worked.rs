@@ -1,4 +1,4 @@
-//! The worked list, as far as this interface reaches it: cases 1 to 11, and roomsheet's four lines.
+//! The worked list, as far as this interface reaches it: cases 1 to 11, and roomsheet's lines.
 
 use giophantus::{Ciphertext, Element, Error, Message, Parameters, PublicKey, SecretKey};
 
@@ -51,6 +51,26 @@ fn case_2_keys() {
     assert!(keys.secret_key.is_zero_of(&keys.public_key).unwrap());
     assert_eq!(keys.secret_key.to_words(), [1, 2, 0, 1]);
     assert_eq!(keys.public_key.to_words(), [5, 7, 100, 1, 1439, 1342]);
+}
+
+/// Case 2 in edition 2: the octets of case 2 alone don't suffice. With more behind them, among which 1459 is dropped, the
+/// keys are the same.
+#[test]
+fn case_2_in_edition_2() {
+    let second = set().with_edition(2).unwrap();
+    let random = [&KEY_RANDOM[..], &[0xB3, 0x05, 0x01, 0x00, 0x02, 0x00]].concat();
+    for len in KEY_RANDOM.len()..random.len() {
+        assert_eq!(second.keygen(&random[..len]).unwrap_err(), Error::RandomExhausted);
+        assert_eq!(second.keygen_from(&random[..len]).unwrap_err(), Error::RandomExhausted);
+    }
+    for keys in [second.keygen(&random), second.keygen_from(&random[..])] {
+        let keys = keys.unwrap();
+        assert_eq!((keys.secret_key.as_ref(), keys.public_key.as_ref()), (&SECRET_KEY[..], &PUBLIC_KEY[..]));
+        assert_eq!((keys.used.octets, keys.used.dropped_groups, keys.used.dropped_elements), (16, 1, 0));
+        assert!(keys.secret_key.is_zero_of(&keys.public_key).unwrap());
+    }
+    let used = set().keygen(&random).unwrap().used;
+    assert_eq!((used.octets, used.dropped_groups, used.dropped_elements), (10, 0, 0));
 }
 
 #[test]
@@ -189,4 +209,13 @@ fn roomsheet_lines() {
     assert_eq!(answer("4 1459 2 1 1"), "11");
     // q = 2B has headroom 1, since s x B must stay below q.
     assert_eq!(answer("4 2910 2 1 1 4"), "0 1455 1");
+    // The edition is a seventh number.
+    assert_eq!(answer("4 1459 2 1 1 4 1"), "0 1455 1");
+    assert_eq!(answer("4 1459 2 1 1 4 2"), "0 1455 1");
+    assert_eq!(answer("4 1459 2 1 1 4 0"), "18");
+    assert_eq!(answer("4 1459 2 1 1 4 3"), "18");
+    assert_eq!(answer("4 1455 2 1 1 4 3"), "4");
+    assert_eq!(answer("4 1459 2 1 1 3 3"), "5");
+    assert_eq!(answer("4 1459 2 1 1 4 01"), "11");
+    assert_eq!(answer("4 1459 2 1 1 4 1 1"), "11");
 }

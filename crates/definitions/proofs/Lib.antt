@@ -31,6 +31,7 @@ pub mod MadeKeys
 pub mod DroppedGroups
 pub mod DroppedElements
 pub mod OctetsUsed
+pub mod Editions
 pub mod Kept
 pub mod Ledger
 pub mod Alike

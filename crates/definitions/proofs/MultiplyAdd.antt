@@ -15,7 +15,7 @@ use lib.ListN.{length}
 use borrow.Author.Tests.{eqb-true, eq-eqb}
 use Rattle.definitions.specs.Sequences.{sum, every, tabulate}
 use Rattle.definitions.specs.Refusals.{accepted, firstRefusal, answer}
-use Rattle.definitions.specs.Parameters.{Parameters, smallBits, termSum, bound, rangeFits, ringFits, degreeFits, modulusFits, messageFits, setTests}
+use Rattle.definitions.specs.Parameters.{Parameters, smallBits, termSum, bound, rangeFits, ringFits, degreeFits, modulusFits, messageFits, editionFits, setTests}
 use Rattle.definitions.specs.Ring.{Element, elementOf, ListInRing, conv, one, multiplyAdd}
 use Rattle.definitions.specs.Octets.{coefficientsFit}
 use Rattle.definitions.specs.Calls.{lengthTests}
@@ -36,7 +36,7 @@ use Rattle.definitions.proofs.Exits.{exit-accepted}
 pub multiply-add-rows : map (λ (r : Row). r .given) multiplyAddRows ≡ map (λ (r : Row). r .expected) multiplyAddRows
 unfolding
     multiplyAddRows multiplyAddExit multiplyAddAnswer multiplyAddExact wordsFit multiplyAdd conv sum every tabulate coefficientsFit firstRefusal answer
-    lengthTests setTests smallBits termSum bound rangeFits ringFits degreeFits modulusFits messageFits
+    lengthTests setTests smallBits termSum bound rangeFits ringFits degreeFits modulusFits messageFits editionFits
 multiply-add-rows = refl
 
 -- ---- laws
@@ -127,7 +127,7 @@ multiply-add-cancels q n above k l =
 
 pub multiply-add-witness : MultiplyAddWitness
 unfolding
-    firstRefusal setTests sum smallBits termSum bound rangeFits ringFits degreeFits modulusFits messageFits coefficientsFit every
+    firstRefusal setTests sum smallBits termSum bound rangeFits ringFits degreeFits modulusFits messageFits editionFits coefficientsFit every
 multiply-add-witness =
     record {
       set = refl;

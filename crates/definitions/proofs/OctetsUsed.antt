@@ -113,22 +113,34 @@ module _ (p : Parameters) (random : List ℕ) where
           = rw front (drawsBelow-fewer (p .q) (keyCoefficients p) left more (omega arith)) in
           either-second (not (halfDraws p (take m random) .enough)) _ (ap not ended)
 
+-- the octets used make the same keys alone
+module _ (p : Parameters) (random : List ℕ) (secretLen publicLen workLen : ℕ) (keys : KeyPair)
+    (made : keygenAnswer p random secretLen publicLen workLen ≡ accepted keys)
+  where
+    pub used-there : keys .used ≤ length random
+    unfolding keyPairOf halvesUsed
+    used-there = rw (← keygen-told p random secretLen publicLen workLen keys made .made) (keyUsed-there p random)
+
+    pub keygenAnswer-taken : keygenAnswer p (take (keys .used) random) secretLen publicLen workLen ≡ accepted keys
+    unfolding keygenAnswer keyPairOf halvesUsed
+    keygenAnswer-taken =
+        let told = keygen-told p random secretLen publicLen workLen keys made in
+        let used : keys .used ≡ keyUsed p random = ap (λ (k : KeyPair). k .used) (sym (told .made)) in
+        ap (λ (m : ℕ). keygenAnswer p (take m random) secretLen publicLen workLen) used
+        ∙ rw (halfDraws-taken p random (told .set) _ (told .settled), keyDraws-taken p random (told .set) (told .settled)) made
+
 pub keygen-needs : KeygenNeeds
 unfolding keygenExit keygenAnswer keyPairOf halvesUsed
 keygen-needs p random secret public used droppedGroups droppedElements work success =
     let made = answer-success _ _ _ success in
-    let told = keygen-told p random (length secret) (length public) (length work) _ made in
     let tests = answer-accepted-only _ _ _ _ made in
-    let needed : ℕ = keyUsed p random in
     let respond : List ℕ → Answer KeyPair = λ octets. keygenAnswer p octets (length secret) (length public) (length work) in
-    let fits : firstRefusal (keygenTests p (take needed random)) ≡ 0
-    = firstRefusal-last 9 _ (rw (halfDraws-taken p random (told .set) _ (told .settled), keyDraws-taken p random (told .set) (told .settled), told .settled, told .enough)) in
     let leaves : Answer KeyPair → KeygenExit = λ a. keygenLeaves a secret public used droppedGroups droppedElements work in
     rw made
     (record {
-      there = keyUsed-there p random;
-      suffice = λ others. ap leaves (answers-alike respond (λ octets more. keygenAnswer-append p octets more _ _ _) needed random others _
-          (answer-accepted _ _ _ (tests .0) fits));
+      there = used-there p random _ _ _ _ made;
+      suffice = λ others. ap leaves (answers-alike respond (λ octets more. keygenAnswer-append p octets more _ _ _) (keyUsed p random) random others _
+          (keygenAnswer-taken p random _ _ _ _ made));
       fewer = λ m l. ap number (answer-refused _ _ _ 8 (tests .0) (firstRefusal-applies 9 _ [] (keyDraws-fewer p random m l)));
     })
 

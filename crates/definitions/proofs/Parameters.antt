@@ -2,7 +2,7 @@
 --
 --   headroom-..       headroom p is the largest s with s × B below q
 --   smallBits-..      b bits hold exactly the numbers below ℓ
---   Passed            the five tests that an accepted set passes;  Accepted: what they say, a field for each comparison
+--   Passed            the six tests that an accepted set passes;  Accepted: what they say, a field for each comparison
 --   bitLength-..      q has just that many bits;  qlen-..: and just that many octets
 --   ..-degree-most    dX and dr are at most 2;  modulus-least: q is at least 36
 --   elementsLength-count  the coefficients of so many elements;  smallLength-room: the octets of a small element have room for its bits;
@@ -19,7 +19,7 @@ use lib.Count.{leadingZeros, leading-top, leading-length}
 use lib.Pow.{pow-mono}
 use Rattle.definitions.specs.Refusals.{firstRefusal}
 use Rattle.definitions.specs.Sequences.{sum}
-use Rattle.definitions.specs.Parameters.{Parameters, degree, smallBits, termSum, bound, headroom, rangeFits, ringFits, isDegree, degreeFits, modulusFits, messageFits, setTests, bitLength, qlen, smallLength, secretLength, elementsLength}
+use Rattle.definitions.specs.Parameters.{Parameters, degree, smallBits, termSum, bound, headroom, rangeFits, ringFits, oneOrTwo, degreeFits, modulusFits, messageFits, editionFits, setTests, bitLength, qlen, smallLength, secretLength, elementsLength}
 use Rattle.definitions.proofs.Sums.{sum-append}
 use Rattle.definitions.proofs.Powers.{pow-octets}
 use Rattle.definitions.proofs.Tests.{both-true, either-true}
@@ -88,6 +88,7 @@ pub record Accepted (p : Parameters) : Type 0 where
   pub modulus-above : bound p < p .q
   pub message-most : p .mlen ≤ p .n * smallBits (p .l)
   pub message-multiple : p .mlen % smallBits (p .l) ≡ 0
+  pub edition : (p .edition ≡ 1) ⊎ (p .edition ≡ 2)
 
 -- the tests that an accepted set passes
 pub record Passed (p : Parameters) : Type 0 where
@@ -96,10 +97,11 @@ pub record Passed (p : Parameters) : Type 0 where
   pub degrees : degreeFits p ≡ true
   pub modulus : modulusFits p ≡ true
   pub message : messageFits p ≡ true
+  pub edition : editionFits p ≡ true
 
 pub setTests-numbered : (p : Parameters) → Numbered (setTests p)
 unfolding setTests
-setTests-numbered p = (omega arith, (omega arith, (omega arith, (omega arith, (omega arith, tt)))))
+setTests-numbered p = (omega arith, (omega arith, (omega arith, (omega arith, (omega arith, (omega arith, tt))))))
 
 pub passed-set : (p : Parameters) → firstRefusal (setTests p) ≡ 0 → Passed p
 unfolding setTests
@@ -109,19 +111,21 @@ passed-set p e =
     let c = firstRefusal-passed 3 _ _ (omega arith) (b .1) in
     let d = firstRefusal-passed 4 _ _ (omega arith) (c .1) in
     let f = firstRefusal-passed 5 _ _ (omega arith) (d .1) in
+    let g = firstRefusal-passed 18 _ _ (omega arith) (f .1) in
     record {
       range = not-false _ (a .0);
       ring = not-false _ (b .0);
       degrees = not-false _ (c .0);
       modulus = not-false _ (d .0);
       message = not-false _ (f .0);
+      edition = not-false _ (g .0);
     }
 
-isDegree-cases : (d : ℕ) → isDegree d ≡ true → (d ≡ 1) ⊎ (d ≡ 2)
-isDegree-cases d e = ⊎-elim (λ a. inl (eqb-true d 1 a)) (λ a. inr (eqb-true d 2 a)) (either-true _ _ e)
+pub oneOrTwo-cases : (d : ℕ) → oneOrTwo d ≡ true → (d ≡ 1) ⊎ (d ≡ 2)
+oneOrTwo-cases d e = ⊎-elim (λ a. inl (eqb-true d 1 a)) (λ a. inr (eqb-true d 2 a)) (either-true _ _ e)
 
 passed-accepted : (p : Parameters) → Passed p → Accepted p
-unfolding ringFits degreeFits modulusFits messageFits
+unfolding ringFits degreeFits modulusFits messageFits editionFits
 passed-accepted p t =
     let ring = both-true _ _ (t .ring) in
     let degrees = both-true _ _ (t .degrees) in
@@ -131,12 +135,13 @@ passed-accepted p t =
       range = t .range;
       ring-least = leb-true _ _ (ring .0);
       ring-most = leb-true _ _ (ring .1);
-      key-degree = isDegree-cases (p .dx) (degrees .0);
-      mask-degree = isDegree-cases (p .dr) (degrees .1);
+      key-degree = oneOrTwo-cases (p .dx) (degrees .0);
+      mask-degree = oneOrTwo-cases (p .dr) (degrees .1);
       modulus-most = leb-true _ _ (modulus .0);
       modulus-above = ltb-true _ _ (modulus .1);
       message-most = leb-true _ _ (message .0);
       message-multiple = eqb-true _ _ (message .1);
+      edition = oneOrTwo-cases (p .edition) (t .edition);
     }
 
 pub accepted-set : (p : Parameters) → firstRefusal (setTests p) ≡ 0 → Accepted p

@@ -149,13 +149,17 @@ isNumber-decimalText x h =
 
 -- a line is answered by its form first, then by its set
 module _ (line : Text) where
-  pub lineAnswer-malformed : wellFormed 6 line ≡ false → lineAnswer line ≡ decimalText 11
+  pub lineAnswer-malformed : (wellFormed 6 line || wellFormed 7 line) ≡ false → lineAnswer line ≡ decimalText 11
   unfolding lineAnswer lineLimits limitsText answer firstRefusal
   lineAnswer-malformed e = rw e
 
-  pub lineAnswer-set : wellFormed 6 line ≡ true → lineAnswer line ≡ limitsText (limitsAnswer (setOf (numbersOf line)))
-  unfolding lineAnswer lineLimits limitsAnswer answer firstRefusal
-  lineAnswer-set e = rw e
+  pub lineLimits-set : (wellFormed 6 line || wellFormed 7 line) ≡ true → lineLimits line ≡ limitsAnswer (setOf (numbersOf line))
+  unfolding lineLimits limitsAnswer answer firstRefusal
+  lineLimits-set e = rw e
+
+  pub lineAnswer-set : (wellFormed 6 line || wellFormed 7 line) ≡ true → lineAnswer line ≡ limitsText (limitsAnswer (setOf (numbersOf line)))
+  unfolding lineAnswer
+  lineAnswer-set e = ap limitsText (lineLimits-set e)
 
 -- an empty line is malformed: it is answered like any other, by 11
 pub roomsheet-empty-line : (text : Text) → roomsheet (10 ∷ text) ≡ 49 ∷ 49 ∷ 10 ∷ roomsheet text

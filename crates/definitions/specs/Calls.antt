@@ -1,5 +1,5 @@
--- 01, "Draws from lent random octets" (keys, sealing, opening, adding, zero test) with "Refusal table", and 02, Q-1 and Q-3: the answer of every
--- call of 01.
+-- 01, "Draws from lent random octets" (keys, sealing, opening, adding, zero test) with "Refusal table", and 02, Q-1, Q-3 and Q-7: the answer of
+-- every call of 01.
 --
 --   01's form is a ciphertext; its r is the mask here and its e the noise.
 --
@@ -18,7 +18,9 @@
 --   KeyPair          what key generation gives: both keys, the octets used, the groups and the elements dropped;  Encrypted: what encryption gives
 --   halfDraws        the draws of u_x, then u_y, the halves of a secret;  halvesUsed: the octets that they used, dropped elements included;
 --                    drawnX, drawnY: u_x and u_y of them
---   keyCoefficients  how many coefficients are drawn for a key;  keyDraws: these draws;  keyConstant: the key's constant;  keyPairOf: all of it
+--   keyElements      how many elements are drawn for a key, by the edition;  keyCoefficients: how many coefficients these have;  keyDraws: these draws
+--   termCoefficients how many of these go into the key: all but the constant's;  keyTerms: these, the first drawn;  keyConstant: the key's constant;
+--                    keyPairOf: all of it
 --   maskCoefficients how many are drawn for r;  maskDraws: these draws;  maskUsed: the octets that they used, dropped groups included;  encryptUsed:
 --                    these and the octets of e
 --   noiseOf          the elements of e;  encryptedWith: m + X × r + ℓ × e
@@ -131,27 +133,37 @@ drawnY halves = getD (halves .values) 1 []
 unfoldable pub halvesUsed : Parameters → List ℕ → ℕ
 halvesUsed p random = elementsUsed p (halfDraws p random)
 
--- how many coefficients are drawn after u_x and u_y: those of all elements but the constant
+-- how many elements are drawn after u_x and u_y: in edition 1 all but the constant (01), in edition 2 the constant as well, after the others (02, Q-7)
+unfoldable pub keyElements : Parameters → ℕ
+keyElements p = cond (eqb (p .edition) 2) (monomialCount (p .dx)) (monomialCount (p .dx) - 1)
+
 abbrev pub keyCoefficients : Parameters → ℕ
-keyCoefficients p = (monomialCount (p .dx) - 1) * p .n
+keyCoefficients p = keyElements p * p .n
+
+-- how many of them are kept for the key: what is drawn for the constant comes last and is thrown away
+abbrev pub termCoefficients : Parameters → ℕ
+termCoefficients p = (monomialCount (p .dx) - 1) * p .n
+
+abbrev pub keyTerms : Parameters → Drawn ℕ → List ℕ
+keyTerms p drawn = take (termCoefficients p) (drawn .values)
 
 unfoldable pub keyDraws : Parameters → List ℕ → Drawn ℕ
 keyDraws p random = drawsBelow (p .q) (keyCoefficients p) (drop (halvesUsed p random) random)
 
 -- minus the sum of a_ij × u_x^i × u_y^j over the others
 unfoldable pub keyConstant : Parameters → List ℕ → Element → Element → Element
-keyConstant p others ux uy k =
-    (p .q - valueOver (monomialCount (p .dx) - 1) (p .n) (p .dx) (polynomialOf (p .n) others) ux uy k % p .q) % p .q
+keyConstant p terms ux uy k =
+    (p .q - valueOver (monomialCount (p .dx) - 1) (p .n) (p .dx) (polynomialOf (p .n) terms) ux uy k % p .q) % p .q
 
 unfoldable pub keyPairOf : Parameters → Drawn (List ℕ) → Drawn ℕ → KeyPair
-keyPairOf p halves others =
+keyPairOf p halves drawn =
     record {
       secret = packed (smallBits (p .l)) (smallLength p) (drawnX halves) ++ packed (smallBits (p .l)) (smallLength p) (drawnY halves);
       public =
           encoded (qlen (p .q))
-          (others .values ++ tabulate (p .n) (keyConstant p (others .values) (elementOf (drawnX halves)) (elementOf (drawnY halves))));
-      used = elementsUsed p halves + octetsUsed (p .q) others;
-      droppedGroups = others .dropped;
+          (keyTerms p drawn ++ tabulate (p .n) (keyConstant p (keyTerms p drawn) (elementOf (drawnX halves)) (elementOf (drawnY halves))));
+      used = elementsUsed p halves + octetsUsed (p .q) drawn;
+      droppedGroups = drawn .dropped;
       droppedElements = halves .dropped;
     }
 

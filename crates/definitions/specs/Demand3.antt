@@ -1,6 +1,6 @@
 -- 01, "The book of sums", last three paragraphs, and demand 3: what is promised of a whole list of calls. proofs/ has the theorems.
 --
---   AcceptedSet      a set that no test of 1 to 5 refuses
+--   AcceptedSet      a set that no test of 1 to 5 and 18 refuses; its edition is 1 or 2, and what is said here holds for both
 --   ZeroOf           a secret that is a zero of the key (01: a fitting secret): its zero test answers yes, so both elements have degree n - 1
 --                    (02, Q-3: every demand means this kind of secret)
 --   InSmallRing      a list of the n coefficients of an element of R_ℓ;  secretOf: the octets of a secret, from its two elements

@@ -114,20 +114,24 @@ unfit = 0xB3 ∷ 0x05 ∷ drop 2 ciphertextA
 
 -- with ℓ 8 coefficients cross octets
 setEight : ℕ → Parameters
-setEight n = record { l = 8; q = 2147483647; n = n; dx = 1; dr = 1; mlen = 0 }
+setEight n = record { l = 8; q = 2147483647; n = n; dx = 1; dr = 1; mlen = 0; edition = 1 }
 
-setCrossing : Parameters
-setCrossing = record { l = 8; q = 76507; n = 3; dx = 1; dr = 1; mlen = 0 }
+unfoldable pub setCrossing : Parameters
+setCrossing = record { l = 8; q = 76507; n = 3; dx = 1; dr = 1; mlen = 0; edition = 1 }
 
 -- six coefficients of 1 for the terms
-crossingRandom : List ℕ
+unfoldable pub crossingRandom : List ℕ
 crossingRandom = 0x3F ∷ 0xFE ∷ 0xC0 ∷ 0x00 ∷ 0x00 ∷ 0x00 ∷ 0x00 ∷ 0x01 ∷ joined (replicate 6 (0x01 ∷ 0x00 ∷ 0x00 ∷ []))
+
+-- the secret C0 00 00 01, and the public key: the constant is 76500 at every place
+unfoldable pub crossingKeys : List ℕ
+crossingKeys = 0xC0 ∷ 0x00 ∷ 0x00 ∷ 0x01 ∷ joined (replicate 6 (0x01 ∷ 0x00 ∷ 0x00 ∷ []) ++ replicate 3 (0xD4 ∷ 0x2A ∷ 0x01 ∷ []))
 
 fullEight : ℕ → List ℕ → ℕ
 fullEight n octets = cond (fullDegree n (smallOf (setEight n) octets)) 1 0
 
 unfoldable pub degreeRows : List Row
-unfolding row keygenA decryptA zeroKey toldZero isZeroA unfit setEight setCrossing crossingRandom fullEight
+unfolding row keygenA decryptA zeroKey toldZero isZeroA unfit setEight setCrossing crossingRandom crossingKeys fullEight
 degreeRows =
     -- 1 is dropped before case 2's octets; elements before both halves, and a group; the octets end before u_y is drawn; zeros alone
     row (keygenA (0x01 ∷ keyRandom)) (0 ∷ 11 ∷ 0 ∷ 1 ∷ 2 ∷ (secretA ++ keyA))
@@ -155,7 +159,7 @@ degreeRows =
     ∷ row (fullEight 2 (0xC1 ∷ []) ∷ fullEight 2 (0x08 ∷ []) ∷ []) (0 ∷ 1 ∷ [])
     -- elements of two octets: 3F FE and 00 00 are dropped, C0 00 and 00 01 kept
     ∷ row (toldKeys (keygenAnswer setCrossing crossingRandom 4 27 24))
-    (0 ∷ 26 ∷ 0 ∷ 2 ∷ 4 ∷ (0xC0 ∷ 0x00 ∷ 0x00 ∷ 0x01 ∷ joined (replicate 6 (0x01 ∷ 0x00 ∷ 0x00 ∷ []) ++ replicate 3 (0xD4 ∷ 0x2A ∷ 0x01 ∷ []))))
+    (0 ∷ 26 ∷ 0 ∷ 2 ∷ 4 ∷ crossingKeys)
     ∷ []
 
 -- ---- the witness

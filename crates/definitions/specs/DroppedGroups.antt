@@ -13,7 +13,7 @@
 --   DrawsAddUp       so is every run
 --   CompleteRun      as many values as draws, each below q, and qlen octets for each of them and for each group dropped
 --   DrawsComplete    so is every run that has enough, a single draw among them
---   keygenFixed      the fixed part of the octets used: u_x and u_y, and n draws for each key element but the constant
+--   keygenFixed      the fixed part of the octets used: u_x and u_y, and n draws for each key element that the edition draws (02, Q-7)
 --   encryptFixed     the same of encryption: n draws for each element of r, and the elements of e
 --   Reported         the octets used are a fixed part plus qlen times the groups dropped; and the groups dropped are the sum over so many
 --                    single draws
@@ -23,7 +23,7 @@
 --                    accepted set, at a power of two and at 16 bits, and one without enough; a run without enough; and the fixed parts: no
 --                    hypothesis is empty
 -- Assumes nothing.
-use Prim.Native.Nat.{ℕ, zero, suc, _+_, _-_, _*_, _/_, _≤_, _<_}
+use Prim.Native.Nat.{ℕ, zero, suc, _+_, _*_, _/_, _≤_, _<_}
 use mathlib.Core.Path.{_≡_}
 use mathlib.Core.Bool.{true, false}
 use mathlib.Core.List.{List, [], _∷_, _++_}
@@ -31,7 +31,7 @@ use lib.ListN.{length, getD, drop, take, replicate}
 use Rattle.definitions.specs.Sequences.{sum, every, tabulate, joined}
 use Rattle.definitions.specs.Parameters.{Parameters, degree, qlen, monomialCount, smallLength}
 use Rattle.definitions.specs.Draws.{Drawn, groupNumber, drawsBelow, drawBelow, octetsUsed}
-use Rattle.definitions.specs.Calls.{maskCoefficients, KeygenExit, keygenExit, EncryptExit, encryptExit}
+use Rattle.definitions.specs.Calls.{keyCoefficients, maskCoefficients, KeygenExit, keygenExit, EncryptExit, encryptExit}
 use Rattle.definitions.specs.WorkedCases.{setA, keyRandom, secretA, keyA, twoDropped, ciphertextA}
 
 abbrev pub groupNumberAt : ℕ → List ℕ → ℕ → ℕ
@@ -80,7 +80,7 @@ abbrev pub DrawsComplete : Type 0
 DrawsComplete = (q count : ℕ) (random : List ℕ) → drawsBelow q count random .enough ≡ true → CompleteRun q count random
 
 unfoldable pub keygenFixed : Parameters → ℕ
-keygenFixed p = 2 * smallLength p + qlen (p .q) * ((monomialCount (p .dx) - 1) * p .n)
+keygenFixed p = 2 * smallLength p + qlen (p .q) * keyCoefficients p
 
 unfoldable pub encryptFixed : Parameters → ℕ
 encryptFixed p = qlen (p .q) * (monomialCount (p .dr) * p .n) + monomialCount (degree p) * smallLength p
@@ -105,8 +105,11 @@ abbrev pub ciphertextRandom : List ℕ
 ciphertextRandom = take 21 twoDropped ++ (0xF9 ∷ [])
 
 -- what the caller's buffers and numbers held
+abbrev pub keysLeftBy : Parameters → List ℕ → KeygenExit
+keysLeftBy p random = keygenExit p random (replicate 2 255) (replicate 12 255) 98 99 96 (replicate 16 97)
+
 abbrev pub keysLeft : List ℕ → KeygenExit
-keysLeft random = keygenExit setA random (replicate 2 255) (replicate 12 255) 98 99 96 (replicate 16 97)
+keysLeft = keysLeftBy setA
 
 abbrev pub ciphertextLeft : List ℕ → EncryptExit
 ciphertextLeft random = encryptExit setA keyA (0x0E ∷ []) random (replicate 24 255) 98 99 (replicate 16 97)

@@ -21,3 +21,4 @@ pub mod DroppedElements
 pub mod OctetsUsed
 pub mod MultiplyAddHolds
 pub mod Witness
+pub mod Editions

@@ -66,7 +66,7 @@ multiplyAddRows =
     ∷ row (leastBoundSet 36) (35 ∷ 35 ∷ []) (35 ∷ 35 ∷ []) (35 ∷ 35 ∷ []) 0 (1 ∷ 1 ∷ [])
     ∷ row (leastBoundSet 2147483647) (2147483646 ∷ 2147483646 ∷ []) (2147483646 ∷ 2147483646 ∷ []) (2147483646 ∷ 2147483646 ∷ []) 0 (1 ∷ 1 ∷ [])
     -- t^2 × t = 1, with n 3
-    ∷ row (record { l = 2; q = 71; n = 3; dx = 1; dr = 1; mlen = 3 }) (0 ∷ 0 ∷ 1 ∷ []) (0 ∷ 1 ∷ 0 ∷ []) (0 ∷ 70 ∷ 2 ∷ []) 0 (1 ∷ 70 ∷ 2 ∷ [])
+    ∷ row (record { l = 2; q = 71; n = 3; dx = 1; dr = 1; mlen = 3; edition = 1 }) (0 ∷ 0 ∷ 1 ∷ []) (0 ∷ 1 ∷ 0 ∷ []) (0 ∷ 70 ∷ 2 ∷ []) 0 (1 ∷ 70 ∷ 2 ∷ [])
     -- 8 for a word of any of the three
     ∷ refused setA (1459 ∷ 2 ∷ []) (5 ∷ 7 ∷ []) (3 ∷ 4 ∷ []) 8
     ∷ refused setA (1 ∷ 2 ∷ []) (5 ∷ 1459 ∷ []) (3 ∷ 4 ∷ []) 8
@@ -76,5 +76,5 @@ multiplyAddRows =
     ∷ refused setA (1 ∷ 2 ∷ []) (5 ∷ 7 ∷ 1459 ∷ []) (3 ∷ 4 ∷ []) 6
     ∷ refused setA (1 ∷ 2 ∷ []) (5 ∷ 1459 ∷ []) (3 ∷ []) 6
     -- 4 before that
-    ∷ refused (record { l = 4; q = 1455; n = 2; dx = 1; dr = 1; mlen = 4 }) (1455 ∷ []) [] (3 ∷ 4 ∷ []) 4
+    ∷ refused (record { l = 4; q = 1455; n = 2; dx = 1; dr = 1; mlen = 4; edition = 1 }) (1455 ∷ []) [] (3 ∷ 4 ∷ []) 4
     ∷ []

@@ -1,8 +1,8 @@
--- 01, "Refusal table", with 02: the order in which every call tests, once for all of them. It is not that of the numbers: 11 comes first, and 14
--- after 8 and before 9 (02, Q-3).
+-- 01, "Refusal table", with 02: the order in which every call tests, once for all of them. It is not that of the numbers: 11 comes first, 18
+-- after 5 and before 6 (02, Q-7), and 14 after 8 and before 9 (02, Q-3).
 --
---   upToLength       the numbers in their order up to the length test: 11 first where it occurs, then 1 to 6; a refusal with one of
---                    these leaves the work words untouched
+--   upToLength       the numbers in their order up to the length test: 11 first where it occurs, then 1 to 5, 18, 6; a refusal with
+--                    one of these leaves the work words untouched
 --   afterLength      those after it; after a refusal with one of these the work words are zero
 --   standsIn         whether some numbers stand in a list, in its order, each at most once
 --   numberOfTest     the number of a test
@@ -25,7 +25,7 @@ use Rattle.definitions.specs.Conversions.{fromOctetsTests, fromOctetsAns
 use Rattle.definitions.specs.Roomsheet.{Text, lineTests, lineLimits}
 
 abbrev pub upToLength : List ℕ
-upToLength = 11 ∷ 1 ∷ 2 ∷ 3 ∷ 4 ∷ 5 ∷ 6 ∷ []
+upToLength = 11 ∷ 1 ∷ 2 ∷ 3 ∷ 4 ∷ 5 ∷ 18 ∷ 6 ∷ []
 
 abbrev pub afterLength : List ℕ
 afterLength = 7 ∷ 8 ∷ 14 ∷ 9 ∷ 10 ∷ []

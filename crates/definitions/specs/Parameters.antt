@@ -1,13 +1,13 @@
--- 01, "The parameter set", and the lengths that "Ring, monomials, octets" fixes by it.
+-- 01, "The parameter set", with 02, Q-7, and the lengths that "Ring, monomials, octets" fixes by it.
 --
---   Parameters       the six numbers: l (01: ℓ), q, n, dx (dX), dr, mlen
+--   Parameters       the seven numbers: l (01: ℓ), q, n, dx (dX), dr, mlen, and the edition of the draws (02, Q-7)
 --   degree           D = dX + dr, the degree of a ciphertext
 --   smallBits        b: 1, 2, 3, 4 for ℓ 2, 4, 8, 16
 --   termSum          S, the sum over k from 0 to D of (k + 1) × n^k × (ℓ - 1)^(k + 1)
 --   bound            B = ℓ - 1 + ℓ × S (01: the bound)
 --   headroom         the largest whole number s with s × B < q: proofs/Parameters.antt shows that (q - 1) / B is it
---   rangeFits, ringFits, degreeFits, modulusFits, messageFits    that tests 1, 2, 3, 4, 5 do not apply
---   setTests         tests 1 to 5, in order
+--   rangeFits, ringFits, degreeFits, modulusFits, messageFits, editionFits    that tests 1, 2, 3, 4, 5, 18 do not apply
+--   setTests         tests 1 to 5, then 18, in order
 --   bitLength        32 minus the leading zeros of q
 --   qlen             the octets of a coefficient: the bit length of q divided by 8, rounded up
 --   monomialCount    (d + 1)(d + 2)/2, the number of monomials of total degree at most d
@@ -33,6 +33,7 @@ pub record Parameters : Type 0 where
   pub dx : ℕ
   pub dr : ℕ
   pub mlen : ℕ
+  pub edition : ℕ
 
 abbrev pub degree : Parameters → ℕ
 degree p = p .dx + p .dr
@@ -55,17 +56,20 @@ rangeFits p = eqb (p .l) 2 || (eqb (p .l) 4 || (eqb (p .l) 8 || eqb (p .l) 16))
 unfoldable pub ringFits : Parameters → Bool
 ringFits p = leb 2 (p .n) && leb (p .n) 4096
 
-abbrev pub isDegree : ℕ → Bool
-isDegree d = eqb d 1 || eqb d 2
+abbrev pub oneOrTwo : ℕ → Bool
+oneOrTwo x = eqb x 1 || eqb x 2
 
 unfoldable pub degreeFits : Parameters → Bool
-degreeFits p = isDegree (p .dx) && isDegree (p .dr)
+degreeFits p = oneOrTwo (p .dx) && oneOrTwo (p .dr)
 
 unfoldable pub modulusFits : Parameters → Bool
 modulusFits p = leb (p .q) 2147483647 && ltb (bound p) (p .q)
 
 unfoldable pub messageFits : Parameters → Bool
 messageFits p = leb (p .mlen) (p .n * smallBits (p .l)) && eqb (p .mlen % smallBits (p .l)) 0
+
+unfoldable pub editionFits : Parameters → Bool
+editionFits p = oneOrTwo (p .edition)
 
 unfoldable pub setTests : Parameters → List Test
 setTests p =
@@ -74,6 +78,7 @@ setTests p =
     ∷ refuse 3 (not (degreeFits p))
     ∷ refuse 4 (not (modulusFits p))
     ∷ refuse 5 (not (messageFits p))
+    ∷ refuse 18 (not (editionFits p))
     ∷ []
 
 unfoldable pub bitLength : ℕ → ℕ

@@ -9,7 +9,7 @@
 --   workAtExit       the work words at exit: as they were after a refusal from the length test or one before it, otherwise zero
 --
 -- The numbers: 1 range, 2 ring, 3 degree, 4 modulus, 5 message size, 6 length, 7 padding, 8 coefficient, 9 exhausted (01: spent), 10 tail, 11 line,
--- 14 top coefficient (02, Q-3). Where several apply, the first of the list is given; Order.antt has the order in which every list goes.
+-- 14 top coefficient (02, Q-3), 18 edition (02, Q-7). Where several apply, the first of the list is given; Order.antt has the order in which every list goes.
 -- Assumes nothing.
 use Prim.Native.Nat.{ℕ, zero, suc}
 use mathlib.Core.Bool.{Bool, cond}

@@ -1,4 +1,4 @@
--- 01, "roomsheet": the text that it reads, the grammar of a line, and what it prints.
+-- 01, "roomsheet", with 02, Q-7: the text that it reads, the grammar of a line, and what it prints.
 --
 --   Text             octets; newline 10, space 32, digits 48 to 57
 --   split            the parts of a text between the separators: one more part than there are separators
@@ -7,9 +7,9 @@
 --   decimal          the number that digits write;  decimalText: the digits of a number below 10^10, decimalLength of them
 --   wellFormed       whether a line is so many numbers with one space between, in at most 80 octets
 --   numbersOf        the numbers of a line
---   setOf            the set that six numbers name, in the order ℓ q n dX dr mlen
+--   setOf            the set that six numbers name, in the order ℓ q n dX dr mlen, in edition 1; a seventh number is the edition (02, Q-7)
 --   limitsText       the text of a set's answer: 0, B and s, or the refusal alone
---   lineTests        the tests of a line: its form, then its set
+--   lineTests        the tests of a line: its form, six numbers or seven, then its set
 --   lineLimits       the answer to a line: 11 where it is malformed, otherwise that of its set;  lineAnswer: the text printed for it
 --   roomsheet        the text printed for a text
 -- Assumes nothing.
@@ -79,6 +79,7 @@ setOf numbers =
       dx = getD numbers 3 0;
       dr = getD numbers 4 0;
       mlen = getD numbers 5 0;
+      edition = getD numbers 6 1;
     }
 
 unfoldable pub limitsText : Answer Limits → Text
@@ -88,7 +89,7 @@ limitsText (accepted limits) =
     decimalText 0 ++ (32 ∷ (decimalText (limits .bound) ++ (32 ∷ decimalText (limits .headroom))))
 
 abbrev pub lineTests : Text → List Test
-lineTests line = refuse 11 (not (wellFormed 6 line)) ∷ setTests (setOf (numbersOf line))
+lineTests line = refuse 11 (not (wellFormed 6 line || wellFormed 7 line)) ∷ setTests (setOf (numbersOf line))
 
 unfoldable pub lineLimits : Text → Answer Limits
 lineLimits line =

@@ -24,7 +24,7 @@ use Rattle.definitions.specs.Demand3.{AcceptedSet, ZeroOf, DiffersBy}
 use Rattle.definitions.specs.WorkedCases.{keyRandom, secretA, afterPair}
 
 abbrev pub setB : Parameters
-setB = record { l = 4; q = 65521; n = 2; dx = 1; dr = 1; mlen = 4 }
+setB = record { l = 4; q = 65521; n = 2; dx = 1; dr = 1; mlen = 4; edition = 1 }
 
 abbrev pub keyB : List ℕ
 keyB = 0x05 ∷ 0x00 ∷ 0x07 ∷ 0x00 ∷ 0x64 ∷ 0x00 ∷ 0x01 ∷ 0x00 ∷ 0xDD ∷ 0xFF ∷ 0x7C ∷ 0xFF ∷ []
@@ -61,7 +61,7 @@ pub record Witnessed : Type 0 where
   pub first-unmasked : getD (getD (givenBy setB [] callsB) 2 []) 0 0 ≡ 4
 
 abbrev pub weakSet : Parameters
-weakSet = record { l = 4; q = 1021; n = 2; dx = 1; dr = 1; mlen = 4 }
+weakSet = record { l = 4; q = 1021; n = 2; dx = 1; dr = 1; mlen = 4; edition = 1 }
 
 abbrev pub weakKey : List ℕ
 weakKey = replicate 12 0

@@ -1,7 +1,7 @@
 -- 01, "Worked list": the cases marked P, and two rows more of 02, Q-1, as one table. proofs/Computed.antt shows that they follow from the
 -- definitions.
 --
---   setA             ℓ 4, q 1459, n 2, dX 1, dr 1, mlen 4
+--   setA             ℓ 4, q 1459, n 2, dX 1, dr 1, mlen 4, in edition 1, like every set of 01
 --   leastBoundSet    ℓ 2, n 2, dX 1, dr 1, mlen 2, for rows of change requests: the least bound of all, 35, so every q from 36 to 2^31 - 1 is
 --                    accepted
 --   Row              what the definitions give, beside what 01, or a change request, says or lets follow
@@ -19,13 +19,13 @@ use Rattle.definitions.specs.Ring.{elementOf, modulo, conv}
 use Rattle.definitions.specs.Calls.{KeyPair, Encrypted, polynomialFrom, secretX, secretY, decryptedValue, decryptedFrom, keygenAnswer, encryptAnswer, decryptAnswer}
 
 abbrev pub setAWith : ℕ → Parameters
-setAWith mlen = record { l = 4; q = 1459; n = 2; dx = 1; dr = 1; mlen = mlen }
+setAWith mlen = record { l = 4; q = 1459; n = 2; dx = 1; dr = 1; mlen = mlen; edition = 1 }
 
 abbrev pub setA : Parameters
 setA = setAWith 4
 
 abbrev pub leastBoundSet : ℕ → Parameters
-leastBoundSet q = record { l = 2; q = q; n = 2; dx = 1; dr = 1; mlen = 2 }
+leastBoundSet q = record { l = 2; q = q; n = 2; dx = 1; dr = 1; mlen = 2; edition = 1 }
 
 -- ---- the octets of the cases
 
@@ -146,6 +146,6 @@ cases =
     ∷ row (valueA largest largestCiphertext) (1455 ∷ 1455 ∷ [])
     ∷ row (decryptA setA largest largestCiphertext) (0 ∷ 0x0F ∷ [])
     ∷ row
-    (tabulate 2 (decryptedFrom (record { l = 4; q = 1455; n = 2; dx = 1; dr = 1; mlen = 4 }) largest largestCiphertext))
+    (tabulate 2 (decryptedFrom (record { l = 4; q = 1455; n = 2; dx = 1; dr = 1; mlen = 4; edition = 1 }) largest largestCiphertext))
     (0 ∷ 0 ∷ [])
     ∷ []

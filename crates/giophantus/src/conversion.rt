@@ -2,7 +2,7 @@
 ghost use Prim.Native.Nat.{_+_};
 ghost use Rattle.definitions.specs.Parameters.{monomialCount};
 ghost use Rattle.definitions.specs.Contracts.{Decodes, Encodes, Unpacks, Packs};
-ghost use Rattle.giophantus.specs.Interface.{set};
+ghost use Rattle.parameters.specs.Answers.{numbersFrom};
 use conversions::decode;
 use conversions::encode;
 use conversions::pack;
@@ -10,22 +10,18 @@ use conversions::unpack;
 use monomials::monomial_count;
 use parameters::Checked;
 use parameters::Parameters;
+use parameters::SetNumbers;
 
 // A ring element: n coefficients of qlen octets each.
 #[no_mangle]
 pub extern "C" fn giophantus_element_from_octets(
-    l: u32,
-    q: u32,
-    n: u32,
-    dx: u32,
-    dr: u32,
-    mlen: u32,
+    set: SetNumbers,
     octets: &[u8],
     words: &mut [u32],
 ) -> u32
-    ensures { λ r. ⌜ Decodes (set l q n dx dr mlen) 1 octets words r ⌝ }
+    ensures { λ r. ⌜ Decodes (numbersFrom set) 1 octets words r ⌝ }
 {
-    match Parameters::new(l, q, n, dx, dr, mlen) {
+    match Parameters::new(set) {
         Checked::Accepted(p) => decode(p, 1, octets, words),
         Checked::Refused(k) => k,
     }
@@ -33,18 +29,13 @@ pub extern "C" fn giophantus_element_from_octets(
 
 #[no_mangle]
 pub extern "C" fn giophantus_element_to_octets(
-    l: u32,
-    q: u32,
-    n: u32,
-    dx: u32,
-    dr: u32,
-    mlen: u32,
+    set: SetNumbers,
     words: &[u32],
     octets: &mut [u8],
 ) -> u32
-    ensures { λ r. ⌜ Encodes (set l q n dx dr mlen) 1 words octets r ⌝ }
+    ensures { λ r. ⌜ Encodes (numbersFrom set) 1 words octets r ⌝ }
 {
-    match Parameters::new(l, q, n, dx, dr, mlen) {
+    match Parameters::new(set) {
         Checked::Accepted(p) => encode(p, 1, words, octets),
         Checked::Refused(k) => k,
     }
@@ -53,38 +44,28 @@ pub extern "C" fn giophantus_element_to_octets(
 // A public key: its elements in monomial order.
 #[no_mangle]
 pub extern "C" fn giophantus_public_key_from_octets(
-    l: u32,
-    q: u32,
-    n: u32,
-    dx: u32,
-    dr: u32,
-    mlen: u32,
+    set: SetNumbers,
     octets: &[u8],
     words: &mut [u32],
 ) -> u32
-    ensures { λ r. ⌜ Decodes (set l q n dx dr mlen) (monomialCount dx) octets words r ⌝ }
+    ensures { λ r. ⌜ Decodes (numbersFrom set) (monomialCount (set .dx)) octets words r ⌝ }
 {
-    match Parameters::new(l, q, n, dx, dr, mlen) {
-        Checked::Accepted(p) => decode(p, monomial_count(dx), octets, words),
+    match Parameters::new(set) {
+        Checked::Accepted(p) => decode(p, monomial_count(set.dx), octets, words),
         Checked::Refused(k) => k,
     }
 }
 
 #[no_mangle]
 pub extern "C" fn giophantus_public_key_to_octets(
-    l: u32,
-    q: u32,
-    n: u32,
-    dx: u32,
-    dr: u32,
-    mlen: u32,
+    set: SetNumbers,
     words: &[u32],
     octets: &mut [u8],
 ) -> u32
-    ensures { λ r. ⌜ Encodes (set l q n dx dr mlen) (monomialCount dx) words octets r ⌝ }
+    ensures { λ r. ⌜ Encodes (numbersFrom set) (monomialCount (set .dx)) words octets r ⌝ }
 {
-    match Parameters::new(l, q, n, dx, dr, mlen) {
-        Checked::Accepted(p) => encode(p, monomial_count(dx), words, octets),
+    match Parameters::new(set) {
+        Checked::Accepted(p) => encode(p, monomial_count(set.dx), words, octets),
         Checked::Refused(k) => k,
     }
 }
@@ -92,38 +73,28 @@ pub extern "C" fn giophantus_public_key_to_octets(
 // A ciphertext: its elements in monomial order.
 #[no_mangle]
 pub extern "C" fn giophantus_ciphertext_from_octets(
-    l: u32,
-    q: u32,
-    n: u32,
-    dx: u32,
-    dr: u32,
-    mlen: u32,
+    set: SetNumbers,
     octets: &[u8],
     words: &mut [u32],
 ) -> u32
-    ensures { λ r. ⌜ Decodes (set l q n dx dr mlen) (monomialCount (dx + dr)) octets words r ⌝ }
+    ensures { λ r. ⌜ Decodes (numbersFrom set) (monomialCount (set .dx + set .dr)) octets words r ⌝ }
 {
-    match Parameters::new(l, q, n, dx, dr, mlen) {
-        Checked::Accepted(p) => decode(p, monomial_count(dx + dr), octets, words),
+    match Parameters::new(set) {
+        Checked::Accepted(p) => decode(p, monomial_count(set.dx + set.dr), octets, words),
         Checked::Refused(k) => k,
     }
 }
 
 #[no_mangle]
 pub extern "C" fn giophantus_ciphertext_to_octets(
-    l: u32,
-    q: u32,
-    n: u32,
-    dx: u32,
-    dr: u32,
-    mlen: u32,
+    set: SetNumbers,
     words: &[u32],
     octets: &mut [u8],
 ) -> u32
-    ensures { λ r. ⌜ Encodes (set l q n dx dr mlen) (monomialCount (dx + dr)) words octets r ⌝ }
+    ensures { λ r. ⌜ Encodes (numbersFrom set) (monomialCount (set .dx + set .dr)) words octets r ⌝ }
 {
-    match Parameters::new(l, q, n, dx, dr, mlen) {
-        Checked::Accepted(p) => encode(p, monomial_count(dx + dr), words, octets),
+    match Parameters::new(set) {
+        Checked::Accepted(p) => encode(p, monomial_count(set.dx + set.dr), words, octets),
         Checked::Refused(k) => k,
     }
 }
@@ -131,18 +102,13 @@ pub extern "C" fn giophantus_ciphertext_to_octets(
 // A small element, packed.
 #[no_mangle]
 pub extern "C" fn giophantus_small_from_octets(
-    l: u32,
-    q: u32,
-    n: u32,
-    dx: u32,
-    dr: u32,
-    mlen: u32,
+    set: SetNumbers,
     octets: &[u8],
     words: &mut [u32],
 ) -> u32
-    ensures { λ r. ⌜ Unpacks (set l q n dx dr mlen) 1 octets words r ⌝ }
+    ensures { λ r. ⌜ Unpacks (numbersFrom set) 1 octets words r ⌝ }
 {
-    match Parameters::new(l, q, n, dx, dr, mlen) {
+    match Parameters::new(set) {
         Checked::Accepted(p) => unpack(p, 1, octets, words),
         Checked::Refused(k) => k,
     }
@@ -150,18 +116,13 @@ pub extern "C" fn giophantus_small_from_octets(
 
 #[no_mangle]
 pub extern "C" fn giophantus_small_to_octets(
-    l: u32,
-    q: u32,
-    n: u32,
-    dx: u32,
-    dr: u32,
-    mlen: u32,
+    set: SetNumbers,
     words: &[u32],
     octets: &mut [u8],
 ) -> u32
-    ensures { λ r. ⌜ Packs (set l q n dx dr mlen) 1 words octets r ⌝ }
+    ensures { λ r. ⌜ Packs (numbersFrom set) 1 words octets r ⌝ }
 {
-    match Parameters::new(l, q, n, dx, dr, mlen) {
+    match Parameters::new(set) {
         Checked::Accepted(p) => pack(p, 1, words, octets),
         Checked::Refused(k) => k,
     }
@@ -170,18 +131,13 @@ pub extern "C" fn giophantus_small_to_octets(
 // A secret key: its two small elements, packed.
 #[no_mangle]
 pub extern "C" fn giophantus_secret_key_from_octets(
-    l: u32,
-    q: u32,
-    n: u32,
-    dx: u32,
-    dr: u32,
-    mlen: u32,
+    set: SetNumbers,
     octets: &[u8],
     words: &mut [u32],
 ) -> u32
-    ensures { λ r. ⌜ Unpacks (set l q n dx dr mlen) 2 octets words r ⌝ }
+    ensures { λ r. ⌜ Unpacks (numbersFrom set) 2 octets words r ⌝ }
 {
-    match Parameters::new(l, q, n, dx, dr, mlen) {
+    match Parameters::new(set) {
         Checked::Accepted(p) => unpack(p, 2, octets, words),
         Checked::Refused(k) => k,
     }
@@ -189,18 +145,13 @@ pub extern "C" fn giophantus_secret_key_from_octets(
 
 #[no_mangle]
 pub extern "C" fn giophantus_secret_key_to_octets(
-    l: u32,
-    q: u32,
-    n: u32,
-    dx: u32,
-    dr: u32,
-    mlen: u32,
+    set: SetNumbers,
     words: &[u32],
     octets: &mut [u8],
 ) -> u32
-    ensures { λ r. ⌜ Packs (set l q n dx dr mlen) 2 words octets r ⌝ }
+    ensures { λ r. ⌜ Packs (numbersFrom set) 2 words octets r ⌝ }
 {
-    match Parameters::new(l, q, n, dx, dr, mlen) {
+    match Parameters::new(set) {
         Checked::Accepted(p) => pack(p, 2, words, octets),
         Checked::Refused(k) => k,
     }

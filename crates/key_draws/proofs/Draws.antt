@@ -17,7 +17,7 @@ use lib.Seq.{slice}
 use Rattle.definitions.specs.Refusals.{firstRefusal, refused, answer}
 use Rattle.definitions.specs.Parameters.{Parameters, qlen, smallLength}
 use Rattle.definitions.specs.Draws.{Drawn, secretDraws}
-use Rattle.definitions.specs.Calls.{halfDraws, halvesUsed, keyDraws, keyPairOf}
+use Rattle.definitions.specs.Calls.{halfDraws, halvesUsed, termCoefficients, keyDraws, keyPairOf}
 use Rattle.definitions.specs.Demand3.{AcceptedSet}
 use Rattle.definitions.proofs.Parameters.{accepted-set, smallLength-least}
 use Rattle.definitions.proofs.Tests.{either-second}
@@ -27,7 +27,7 @@ use Rattle.draws.proofs.Runs.{drawnAnswer-ended}
 use Rattle.draws.specs.Runs.{drawnAnswer}
 use Rattle.key_draws.specs.declared.KeyRun.the-variants.{Complete}
 use Rattle.key_draws.proofs.Parts.{slice-kept}
-use Rattle.key_draws.specs.Keys.{wordsX, wordsHalves, wordsTerms, keysSaid, keysDrawn}
+use Rattle.key_draws.specs.Keys.{wordsX, wordsHalves, wordsTerms, wordsDrawn, keysSaid, keysDrawn}
 
 -- a run that has enough, as a record
 abbrev pub enoughOf : {A : Type 0} → List A → ℕ → ℕ → Drawn A
@@ -96,7 +96,7 @@ module _ (p : Parameters) (random : List ℕ) where
   keys-ended-terms e = rw (either-second (not (halfDraws p random .enough)) (not (keyDraws p random .enough)) (ap not e))
 
   pub keys-whole : (work : List ℕ) {g d h c used : ℕ} → halfDraws p random ≡ enoughOf (wordsHalves p work) g d
-      → keyDraws p random ≡ enoughOf (wordsTerms p work) h c → used ≡ smallLength p * g + qlen (p .q) * h
+      → keyDraws p random ≡ enoughOf (wordsDrawn p work) h c → take (termCoefficients p) (wordsDrawn p work) ≡ wordsTerms p work → used ≡ smallLength p * g + qlen (p .q) * h
       → keysSaid p (Complete used c d) work ≡ keysDrawn p random
   unfolding keysDrawn answer firstRefusal keyPairOf
-  keys-whole work e f u = rw (e, f, u)
+  keys-whole work e f t u = rw (e, f, t, u)

@@ -2,7 +2,7 @@
 --
 --   borrowed-slice       what is lent is the slice;  put-follows: what comes back stands behind what stood before it
 --   follows-slice    such a list is the slice;  follows-kept: and what stood before it is as it was
---   slice-kept       a slice of a front that is as it was;  slice-at: its elements
+--   slice-kept       a slice of a front that is as it was;  slice-front: the front of a slice;  slice-at: its elements
 --   follows-twice    two lists one behind the other;  put-tail: a tail that was lent;  put-zeros: zeros behind a slice
 -- Assumes nothing.
 use Prim.Native.Nat.{ℕ, _+_, _-_, _≤_, _<_}
@@ -36,6 +36,12 @@ module _ (a e : ℕ) (new old given : List ℕ) (h : a ≤ length old) (f : Foll
 
 pub slice-kept : (a e k : ℕ) (old given : List ℕ) → e ≤ k → take k given ≡ take k old → slice a e given ≡ slice a e old
 slice-kept a e k old given l same = ap (drop a) (sym (take-take e k given l) ∙ ap (take e) same ∙ take-take e k old l)
+
+pub slice-front : (a m e : ℕ) (l : List ℕ) → a + m ≤ e → e ≤ length l → take m (slice a e l) ≡ slice a (a + m) l
+slice-front a m e l h g =
+    let same : a + m - a ≡ m = omega arith in
+    ap (take m) (sym (borrowed-slice a e l (omega arith) g)) ∙ take-take m (e - a) (drop a l) (omega arith)
+    ∙ (rw same at (borrowed-slice a (a + m) l (omega arith) (omega arith)))
 
 pub slice-at : (a e : ℕ) (l : List ℕ) (k : ℕ) → a + k < e → getD (slice a e l) k 0 ≡ getD l (a + k) 0
 slice-at a e l k s = getD-drop a (take e l) k 0 ∙ getD-take e l (a + k) 0 s

@@ -1,8 +1,10 @@
--- 01, "Draws from lent random octets" (key making), with 02, Q-1 and Q-3: what stands in the work words while keys are made.
+-- 01, "Draws from lent random octets" (key making), with 02, Q-1, Q-3 and Q-7: what stands in the work words while keys are made.
 --
 --   Follows          a list stands from a place up to another, behind what stood before it
 --   termsEnd         where the words of the terms end: every term but the constant, behind the first two parts
---   wordsX, wordsY   the words of u_x and of u_y: the first two parts;  wordsHalves: both;  wordsTerms: those of the terms
+--   drawnEnd         where the words of all that is drawn end: in edition 2 the constant's, which are thrown away, stand behind the terms
+--   wordsX, wordsY   the words of u_x and of u_y: the first two parts;  wordsHalves: both;  wordsTerms: those of the terms;  wordsDrawn: those of all
+--                    that is drawn for the key
 --   KeyWords         work words of the exact length with small elements in the first two parts and elements of R_q behind them
 --   publicIn         the public key's octets, of the terms and the secret in the work words
 --   keysSaid         what each answer of the draws says, with the work words beside it: the keys that they make and the three numbers, or 9
@@ -20,7 +22,7 @@ use Rattle.definitions.specs.Refusals.{Answer, refused, accepted, answer}
 use Rattle.definitions.specs.Parameters.{Parameters, qlen, monomialCount}
 use Rattle.definitions.specs.Ring.{elementOf}
 use Rattle.definitions.specs.Octets.{encoded, coefficientsFit}
-use Rattle.definitions.specs.Calls.{KeyPair, halfDraws, keyDraws, keyConstant, keyPairOf, keygenTests}
+use Rattle.definitions.specs.Calls.{KeyPair, halfDraws, keyElements, keyDraws, keyConstant, keyPairOf, keygenTests}
 use Rattle.definitions.specs.Demand3.{AcceptedSet, InSmallRing, secretOf}
 use Rattle.key_draws.specs.declared.KeyRun.{KeyRun}
 use Rattle.key_draws.specs.declared.KeyRun.the-variants.{Complete, Exhausted}
@@ -30,6 +32,9 @@ Follows at stop new old given = take stop given ≡ take at old ++ new
 
 abbrev pub termsEnd : Parameters → ℕ
 termsEnd p = p .n + p .n + (monomialCount (p .dx) - 1) * p .n
+
+abbrev pub drawnEnd : Parameters → ℕ
+drawnEnd p = p .n + p .n + keyElements p * p .n
 
 abbrev pub wordsX : Parameters → List ℕ → List ℕ
 wordsX p = slice 0 (p .n)
@@ -42,6 +47,9 @@ wordsHalves p work = wordsX p work ∷ wordsY p work ∷ []
 
 abbrev pub wordsTerms : Parameters → List ℕ → List ℕ
 wordsTerms p = slice (p .n + p .n) (termsEnd p)
+
+abbrev pub wordsDrawn : Parameters → List ℕ → List ℕ
+wordsDrawn p = slice (p .n + p .n) (drawnEnd p)
 
 pub record KeyWords (p : Parameters) (work : List ℕ) : Type 0 where
   pub set : AcceptedSet p

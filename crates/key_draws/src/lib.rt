@@ -1,8 +1,9 @@
-// All that is drawn for keys (01, "Draws from lent random octets": key making; 02, Q-1 and Q-3): u_x, then u_y, each until it has degree n - 1, then
-// the elements of every term but the constant.
+// All that is drawn for keys (01, "Draws from lent random octets": key making; 02, Q-1, Q-3 and Q-7): u_x, then u_y, each until it has degree n - 1,
+// then the elements of every term but the constant, and in edition 2 the constant's, which is thrown away.
 //
-// The set is accepted and the work words have their exact length. u_x and u_y stand in the first two parts and the terms behind them. Where the
-// random octets end first that is said, and the words may hold anything. What is said is the definitions' answer after the length test.
+// The set is accepted and the work words have their exact length. u_x and u_y stand in the first two parts, the terms behind them, and what is drawn
+// for the constant behind these: with dX 2 the work words are then full. Where the random octets end first that is said, and the words may hold
+// anything. What is said is the definitions' answer after the length test.
 ghost use mathlib.Core.Path.{_≡_};
 ghost use mathlib.Core.List.{_∷_, []};
 ghost use Prim.Native.Nat.{_+_, _*_, _≤_};
@@ -14,7 +15,7 @@ ghost use Rattle.definitions.specs.Contracts.{before, after};
 ghost use Rattle.definitions.specs.Demand3.{AcceptedSet};
 ghost use Rattle.parameters.specs.Answers.{setFrom};
 ghost use Rattle.draws.specs.Runs.{said, drawnAnswer};
-ghost use Rattle.key_draws.specs.Keys.{termsEnd, wordsHalves, wordsTerms, keysSaid, keysDrawn, ready};
+ghost use Rattle.key_draws.specs.Keys.{termsEnd, drawnEnd, wordsHalves, wordsDrawn, keysSaid, keysDrawn, ready};
 use draws::Run;
 use parameters::Parameters;
 
@@ -59,15 +60,28 @@ pub fn terms_end(p: Parameters) -> usize
     n + n + (monomials::monomial_count(p.dx) - 1) * n
 }
 
-// The elements of every term but the constant, from the octets after the secret's, behind the first two parts of the work words.
+// Where the words of all that is drawn end: in edition 2 the constant's stand behind those of the terms.
+fn drawn_end(p: Parameters) -> usize
+    requires { ⌜ AcceptedSet (setFrom p) ⌝ }
+    ensures { λ r. ⌜ (r ≡ drawnEnd (setFrom p)) × (r ≤ 8 * p .n) ⌝ }
+{
+    let end = terms_end(p);
+    if p.edition == 2 {
+        return end + p.n as usize;
+    }
+    end
+}
+
+// The elements of every term but the constant, and in edition 2 the constant's, from the octets after the secret's, behind the first two parts of
+// the work words.
 fn draw_terms(p: Parameters, random: &[u8], start: usize, work: &mut [u32]) -> Run
     requires { ⌜ AcceptedSet (setFrom p) × (start ≡ halvesUsed (setFrom p) (now random)) × (length (now work) ≡ 8 * p .n) ⌝ }
-    ensures { λ r. ⌜ said r (wordsTerms (setFrom p) (after work)) ≡ drawnAnswer (keyDraws (setFrom p) (before random)) ⌝ }
+    ensures { λ r. ⌜ said r (wordsDrawn (setFrom p) (after work)) ≡ drawnAnswer (keyDraws (setFrom p) (before random)) ⌝ }
     ensures { λ _. ⌜ take (p .n + p .n) (after work) ≡ take (p .n + p .n) (before work) ⌝ }
 {
     let n = p.n as usize;
     let at = n + n;
-    let stop = terms_end(p);
+    let stop = drawn_end(p);
     draws::draw_below(random, start, p.q, &mut work[at..stop])
 }
 

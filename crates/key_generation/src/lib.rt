@@ -1,10 +1,12 @@
 // Key generation (01, "Draws from lent random octets": key making): u_x and u_y are drawn first, each until it has degree n - 1 (02, Q-3), then the
-// elements of every term but the constant; the constant is minus the value of those terms at (u_x, u_y), so that the secret is a zero of the key.
+// elements of every term but the constant, and in edition 2 (02, Q-7) one for the constant, which is thrown away; the constant is minus the value of
+// the terms at (u_x, u_y), so that the secret is a zero of the key.
 //
 // The set is accepted. A length that is not the exact one is refused (6), and nothing is touched; random octets that end before the last
 // draw is complete are refused (9), and the outputs stay as they were and the work words are zero. All that is drawn stands in the work
-// words, u_x and u_y in the first two parts and the terms behind them, before an output is written. With the keys it says the octets used, the
-// groups dropped (02, Q-1) and the elements dropped (02, Q-3). The contract is the definitions' Makes.
+// words, u_x and u_y in the first two parts and the terms behind them, before an output is written; 0 for the constant goes over what was
+// thrown away. With the keys it says the octets used, the groups dropped (02, Q-1) and the elements dropped (02, Q-3). The contract is the
+// definitions' Makes.
 ghost use mathlib.Core.Path.{_≡_};
 ghost use mathlib.Core.Bool.{true};
 ghost use Prim.Native.Nat.{_+_, _*_, _≤_, _<_};

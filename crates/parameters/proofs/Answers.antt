@@ -1,4 +1,4 @@
--- What the constructor's answer tells of the set that the six numbers name.
+-- What the constructor's answer tells of the set that the numbers given name.
 --
 --   checked-accepted     an accepted set passes every test, and is the one named
 --   checked-fits         so the set that came back does

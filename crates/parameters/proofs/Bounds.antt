@@ -2,7 +2,7 @@
 --
 --   Within               least ≤ x ≤ most
 --   smallBits-within     b is 1 to 4, for every ℓ
---   isDegree-leb         1 and 2 are the numbers from 1 to 2
+--   oneOrTwo-leb         1 and 2 are the numbers from 1 to 2
 --   ringFits-within, degreeFits-within     the limits of n, and of dX and dr
 -- Assumes nothing.
 use Prim.Native.Nat.{ℕ, zero, suc, _≤_}
@@ -11,7 +11,7 @@ use mathlib.Core.Path.{_≡_, refl}
 use mathlib.Core.Bool.{Bool, true, false, cond, _&&_}
 use lib.Dec.{eqb, leb}
 use borrow.Author.Tests.{leb-true, le-leb, lt-leb, ne-eqb}
-use Rattle.definitions.specs.Parameters.{Parameters, isDegree, smallBits, ringFits, degreeFits}
+use Rattle.definitions.specs.Parameters.{Parameters, oneOrTwo, smallBits, ringFits, degreeFits}
 use Rattle.definitions.proofs.Tests.{both-true}
 
 pub record Within (low high x : ℕ) : Type 0 where
@@ -28,11 +28,11 @@ smallBits-within l =
     cond-within (eqb l 2) (omega arith)
     (cond-within (eqb l 4) (omega arith) (cond-within (eqb l 8) (omega arith) (omega arith)))
 
-pub isDegree-leb : (d : ℕ) → isDegree d ≡ (leb 1 d && leb d 2)
-isDegree-leb zero = refl
-isDegree-leb (suc zero) = refl
-isDegree-leb (suc (suc zero)) = refl
-isDegree-leb (suc (suc (suc d))) =
+pub oneOrTwo-leb : (d : ℕ) → oneOrTwo d ≡ (leb 1 d && leb d 2)
+oneOrTwo-leb zero = refl
+oneOrTwo-leb (suc zero) = refl
+oneOrTwo-leb (suc (suc zero)) = refl
+oneOrTwo-leb (suc (suc (suc d))) =
     let x = suc (suc (suc d)) in
     simp
     (ne-eqb x 1 (λ h. omega arith), ne-eqb x 2 (λ h. omega arith), le-leb 1 x (omega arith), lt-leb x 2 (omega arith))
@@ -49,5 +49,5 @@ ringFits-within p e = leb-within 2 4096 (p .n) e
 pub degreeFits-within : (p : Parameters) → degreeFits p ≡ true → Within 1 2 (p .dx) × Within 1 2 (p .dr)
 unfolding degreeFits
 degreeFits-within p e =
-    let both = both-true _ _ (rw (isDegree-leb (p .dx), isDegree-leb (p .dr)) at e) in
+    let both = both-true _ _ (rw (oneOrTwo-leb (p .dx), oneOrTwo-leb (p .dr)) at e) in
     (leb-within 1 2 (p .dx) (both .0), leb-within 1 2 (p .dr) (both .1))

@@ -1,15 +1,28 @@
-// A parameter set (01, "The parameter set"): its tests, its noise bound and headroom, and the bits of a small coefficient.
-// `Parameters::new` refuses a set that fails a test with 1 to 5, the first that applies; nothing wraps, whatever the six numbers are. It is
-// the only way to a set that is worked with: whatever takes one requires AcceptedSet of it. The contracts cite the definitions' setTests,
-// limitsOf and smallBits, through specs/Answers.antt.
+// A parameter set (01, "The parameter set", with 02, Q-7): its tests, its noise bound and headroom, and the bits of a small coefficient.
+// `SetNumbers` are the seven numbers as a caller gives them. `Parameters::new` takes them and refuses a set that fails a test with 1 to 5 or 18, the
+// first that applies; nothing wraps, whatever the numbers are. It is the only way to a set that is worked with, `Parameters`: whatever takes one
+// requires AcceptedSet of it. The contracts cite the definitions' setTests, limitsOf and smallBits, through specs/Answers.antt.
 pub mod refusals;
 mod tests;
 
 ghost use mathlib.Core.Path.{_≡_};
 ghost use Rattle.definitions.specs.Parameters.{smallBits, limitsOf};
 ghost use Rattle.definitions.specs.Demand3.{AcceptedSet};
-ghost use Rattle.parameters.specs.Answers.{setFrom, setAnswer, checkedAs, limitsFrom};
+ghost use Rattle.parameters.specs.Answers.{setFrom, numbersFrom, setAnswer, checkedAs, limitsFrom};
 
+// The numbers of a set, tested or not: giophantus_set of the C interface.
+#[repr(C)]
+pub struct SetNumbers {
+    pub l: u32,
+    pub q: u32,
+    pub n: u32,
+    pub dx: u32,
+    pub dr: u32,
+    pub mlen: u32,
+    pub edition: u32,
+}
+
+// A set that the constructor accepted, wherever it stands outside this crate.
 pub struct Parameters {
     pub l: u32,
     pub q: u32,
@@ -17,6 +30,7 @@ pub struct Parameters {
     pub dx: u32,
     pub dr: u32,
     pub mlen: u32,
+    pub edition: u32,
 }
 
 // What the constructor answers: the set, or the refusal.
@@ -46,16 +60,21 @@ impl Parameters {
 
     pub const Q_MOST: u32 = 2147483647;
 
-    pub fn new(l: u32, q: u32, n: u32, dx: u32, dr: u32, mlen: u32) -> Checked
-        ensures { λ r. ⌜ checkedAs r ≡ setAnswer (record { l = l; q = q; n = n; dx = dx; dr = dr; mlen = mlen }) ⌝ }
+    pub const EDITION_LEAST: u32 = 1;
+
+    pub const EDITION_MOST: u32 = 2;
+
+    pub fn new(set: SetNumbers) -> Checked
+        ensures { λ r. ⌜ checkedAs r ≡ setAnswer (numbersFrom set) ⌝ }
     {
         let p = Parameters {
-            l,
-            q,
-            n,
-            dx,
-            dr,
-            mlen,
+            l: set.l,
+            q: set.q,
+            n: set.n,
+            dx: set.dx,
+            dr: set.dr,
+            mlen: set.mlen,
+            edition: set.edition,
         };
         if !tests::range_fits(p) {
             return Checked::Refused(refusals::RANGE);
@@ -71,6 +90,9 @@ impl Parameters {
         }
         if !tests::message_fits(p) {
             return Checked::Refused(refusals::MESSAGE_SIZE);
+        }
+        if !tests::edition_fits(p) {
+            return Checked::Refused(refusals::EDITION);
         }
         Checked::Accepted(p)
     }

@@ -22,3 +22,5 @@ pub const TAIL: u32 = 10;
 pub const LINE: u32 = 11;
 // 02, Q-3: a given secret element has a zero top coefficient
 pub const TOP_COEFFICIENT: u32 = 14;
+// 02, Q-7: the edition is neither 1 nor 2
+pub const EDITION: u32 = 18;

@@ -1,10 +1,10 @@
-// The five tests of a set, one function each, and the noise bound that the fourth compares with.
+// The six tests of a set, one function each, and the noise bound that the fourth compares with.
 use super::Parameters;
 use super::bits;
 ghost use mathlib.Core.Path.{_≡_};
 ghost use mathlib.Core.Bool.{true};
 ghost use Prim.Native.Nat.{min};
-ghost use Rattle.definitions.specs.Parameters.{isDegree, rangeFits, ringFits, degreeFits, modulusFits, messageFits, bound};
+ghost use Rattle.definitions.specs.Parameters.{oneOrTwo, rangeFits, ringFits, degreeFits, modulusFits, messageFits, editionFits, bound};
 ghost use Rattle.parameters.specs.Answers.{setFrom};
 
 pub fn range_fits(p: Parameters) -> bool
@@ -26,7 +26,7 @@ pub fn degree_fits(p: Parameters) -> bool
 }
 
 fn is_degree(d: u32) -> bool
-    ensures { λ r. ⌜ r ≡ isDegree d ⌝ }
+    ensures { λ r. ⌜ r ≡ oneOrTwo d ⌝ }
 {
     (Parameters::DEGREE_LEAST <= d) & (d <= Parameters::DEGREE_MOST)
 }
@@ -74,4 +74,10 @@ pub fn message_fits(p: Parameters) -> bool
 {
     let b = bits(p.l);
     ((p.mlen as u64) <= (p.n as u64) * (b as u64)) & (p.mlen % b == 0)
+}
+
+pub fn edition_fits(p: Parameters) -> bool
+    ensures { λ r. ⌜ r ≡ editionFits (setFrom p) ⌝ }
+{
+    (Parameters::EDITION_LEAST <= p.edition) & (p.edition <= Parameters::EDITION_MOST)
 }

@@ -16,7 +16,7 @@ use mathlib.Core.List.{map}
 use Rattle.definitions.specs.Sequences.{sum}
 use Rattle.definitions.specs.Refusals.{firstRefusal}
 use Rattle.definitions.specs.WorkedCases.{Row}
-use Rattle.definitions.specs.Parameters.{smallBits, termSum, bound, rangeFits, ringFits, degreeFits, modulusFits, messageFits, setTests}
+use Rattle.definitions.specs.Parameters.{smallBits, termSum, bound, rangeFits, ringFits, degreeFits, modulusFits, messageFits, editionFits, setTests}
 use Rattle.definitions.proofs.Parameters.{accepted-set}
 use Rattle.ring.specs.Coefficients.{shiftSum, ShiftSums, sumRows}
 
@@ -74,5 +74,5 @@ difference-modulo q a b h g l =
 -- ---- the rows
 
 pub sum-rows : map (λ (r : Row). r .given) sumRows ≡ map (λ (r : Row). r .expected) sumRows
-unfolding sumRows shiftSum firstRefusal sum smallBits termSum bound rangeFits ringFits degreeFits modulusFits messageFits setTests
+unfolding sumRows shiftSum firstRefusal sum smallBits termSum bound rangeFits ringFits degreeFits modulusFits messageFits editionFits setTests
 sum-rows = refl

@@ -1,15 +1,20 @@
-// The lines of a text, answered as 01, "roomsheet", says, however the text is cut: the ended lines in front of a buffer are answered as far as
-// there is room, what is left is kept for the next read, and a last line may lack its newline. A malformed line is refusal 11; refusals are
-// text here, as roomsheet prints them. The contracts cite the definitions' lineAnswer and roomsheet; proofs/Texts.antt shows that a whole
-// run prints roomsheet of the whole input.
+// The lines of a text, answered as 01, "roomsheet", with 02, Q-7, says, however the text is cut: the ended lines in front of a buffer are
+// answered as far as there is room, what is left is kept for the next read, and a last line may lack its newline. A line is six numbers, a
+// set in edition 1, or seven, the last of which is the edition; any other is malformed, refusal 11. Refusals are text here, as roomsheet
+// prints them. The contracts cite the definitions' lineAnswer and roomsheet; proofs/Texts.antt shows that a whole run prints roomsheet of
+// the whole input.
 use parameters::Checked;
 use parameters::Parameters;
+use parameters::SetNumbers;
 use parameters::refusals;
 ghost use mathlib.Core.Path.{_≡_};
 ghost use mathlib.Core.List.{[], _∷_, _++_};
 ghost use Prim.Native.Nat.{_+_, _≤_};
 ghost use lib.ListN.{length, take, drop};
-ghost use Rattle.definitions.specs.Roomsheet.{lineAnswer, roomsheet};
+ghost use Rattle.definitions.specs.Parameters.{limitsAnswer};
+ghost use Rattle.definitions.specs.Roomsheet.{setOf, limitsText, lineAnswer, roomsheet};
+ghost use Rattle.definitions.specs.Editions.{inEdition};
+ghost use Rattle.parameters.specs.Answers.{numbersFrom};
 ghost use Rattle.roomsheet_parse.specs.Parts.{Without};
 ghost use Rattle.roomsheet_print.specs.Appended.{Appended};
 ghost use Rattle.roomsheet_lines.specs.Answered.{LinesAnswered, Keeps, ChunkAnswered};
@@ -21,18 +26,45 @@ pub struct Lines {
     pub done: bool,
 }
 
-// The answer to a line at a place of the buffer: the limits of its set, or the refusal, which is 11 where the line is malformed.
+// The edition of a line of six numbers.
+const FIRST_EDITION: u32 = 1;
+
+// The set that the first six words of a line name, in an edition; the seventh word is not looked at.
+fn set_of(x: [u32; 7], edition: u32) -> SetNumbers
+    ensures { λ r. ⌜ numbersFrom r ≡ inEdition edition (setOf x) ⌝ }
+{
+    SetNumbers {
+        l: x[0],
+        q: x[1],
+        n: x[2],
+        dx: x[3],
+        dr: x[4],
+        mlen: x[5],
+        edition,
+    }
+}
+
+// The answer to a set at a place of the buffer: its limits, or the refusal.
+fn put_set(out: &mut [u8], at: usize, set: SetNumbers) -> usize
+    requires { ⌜ at + 32 ≤ length (now out) ⌝ }
+    ensures { λ r. ⌜ Appended (now (out .entry)) at (now (out .exit)) r (limitsText (limitsAnswer (numbersFrom set))) ⌝ }
+{
+    match Parameters::new(set) {
+        Checked::Accepted(p) => roomsheet_print::put_limits(out, at, parameters::limits(p)),
+        Checked::Refused(k) => roomsheet_print::put_number(out, at, k),
+    }
+}
+
+// The answer to a line at a place of the buffer: that of the set that its numbers name, or 11 where it is malformed.
 fn put_answer(line: &[u8], out: &mut [u8], at: usize) -> usize
     requires { ⌜ at + 32 ≤ length (now out) ⌝ }
     ensures { λ r. ⌜ Appended (now (out .entry)) at (now (out .exit)) r (lineAnswer (now (line .entry))) ⌝ }
 {
-    let mut x = [0u32; 6];
-    if !roomsheet_parse::parse_numbers(line, 6, &mut x) {
-        return roomsheet_print::put_number(out, at, refusals::LINE);
-    }
-    match Parameters::new(x[0], x[1], x[2], x[3], x[4], x[5]) {
-        Checked::Accepted(p) => roomsheet_print::put_limits(out, at, parameters::limits(p)),
-        Checked::Refused(k) => roomsheet_print::put_number(out, at, k),
+    let mut x = [0u32; 7];
+    match roomsheet_parse::parse_numbers(line, &mut x) {
+        6 => put_set(out, at, set_of(x, FIRST_EDITION)),
+        7 => put_set(out, at, set_of(x, x[6])),
+        _ => roomsheet_print::put_number(out, at, refusals::LINE),
     }
 }
 

@@ -1,6 +1,6 @@
-// Reading roomsheet's text (01, "roomsheet"): where a line ends, and its numbers, without sign or needless leading zero and at most
-// 4,294,967,295. A line that is no such list is told malformed: refusal 11. The contracts cite specs/Numbers.antt, which rests
-// on the definitions' isNumber, wellFormed and numbersOf.
+// Reading roomsheet's text (01, "roomsheet", with 02, Q-7): where a line ends, how many numbers it has and which, without sign or needless
+// leading zero and at most 4,294,967,295. How many a line is to have is the caller's business; one that is malformed, or has more than there
+// is room for, is told 0. The contracts cite specs/Numbers.antt, which rests on the definitions' isNumber, wellFormed and numbersOf.
 ghost use mathlib.Core.Path.{_≡_};
 ghost use Prim.Native.Nat.{_+_, _≤_};
 ghost use lib.ListN.{length, drop};
@@ -95,26 +95,26 @@ pub fn parse_number(line: &[u8], from: usize) -> Number
     read
 }
 
-// A line of so many numbers with one space between, in at most 80 octets: its numbers go to the front of `numbers`.
-pub fn parse_numbers(line: &[u8], count: usize, numbers: &mut [u32]) -> bool
-    requires { ⌜ count ≤ length (now numbers) ⌝ }
-    ensures { λ r. ⌜ NumbersRead count (now (line .entry)) r (now (numbers .exit)) ⌝ }
+// How many numbers a line has, with one space between, in at most 80 octets: they go to the front of `numbers`, in one reading. 0 where the
+// line is malformed, or has more numbers than there is room for.
+pub fn parse_numbers(line: &[u8], numbers: &mut [u32]) -> usize
+    ensures { λ r. ⌜ NumbersRead (length (now (numbers .entry))) (now (line .entry)) r (now (numbers .exit)) ⌝ }
 {
     if LINE_MOST < line.len() {
-        return false;
+        return 0;
     }
     let mut at = 0;
-    let mut i = 0;
-    while i < count {
+    let mut count = 0;
+    while count < numbers.len() {
         let Number::Value { value, next } = parse_number(line, at) else {
-            return false;
+            return 0;
         };
-        numbers[i] = value;
-        i += 1;
+        numbers[count] = value;
+        count += 1;
         if next == line.len() {
-            return i == count;
+            return count;
         }
         at = next + 1;
     }
-    false
+    0
 }

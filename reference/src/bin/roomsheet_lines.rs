@@ -1,5 +1,6 @@
 //! Prints a fixed list of input lines for roomsheet: both sides of every limit, several refusals
-//! together, malformed lines of every kind, random sets; the last line has no newline.
+//! together, malformed lines of every kind, random sets, without an edition and with one (02, Q-7);
+//! the last line has no newline.
 
 use std::io::{self, Write};
 
@@ -9,6 +10,29 @@ use reference::set::bound;
 const MOST_Q: u128 = 2_147_483_647;
 const SMALL: [(u32, u32); 4] = [(2, 1), (4, 2), (8, 3), (16, 4)];
 const DEGREES: [(u32, u32); 4] = [(1, 1), (1, 2), (2, 1), (2, 2)];
+
+/// Editions of 1 and 2, both sides of them, and those that are 1 or 2 in fewer bits.
+const EDITIONS: [u32; 16] = [
+    0,
+    1,
+    2,
+    3,
+    4,
+    10,
+    255,
+    256,
+    257,
+    258,
+    65_537,
+    65_538,
+    (1 << 31) + 1,
+    (1 << 31) + 2,
+    u32::MAX - 1,
+    u32::MAX,
+];
+
+/// Well-formed lines, without an edition and with one.
+const WELL_FORMED: [&str; 2] = ["4 1459 2 1 1 4", "4 1459 2 1 1 4 2"];
 
 /// The lines so far, without their newlines.
 struct Lines(Vec<Vec<u8>>);
@@ -23,12 +47,16 @@ impl Lines {
         self.octets(line.as_bytes());
     }
 
-    fn numbers(&mut self, numbers: [u128; 6]) {
-        self.text(&numbers.map(|x| x.to_string()).join(" "));
+    fn set(&mut self, l: u32, q: u128, n: u32, dx: u32, dr: u32, mlen: u32) {
+        self.text(&format!("{l} {q} {n} {dx} {dr} {mlen}"));
     }
 
-    fn set(&mut self, l: u32, q: u128, n: u32, dx: u32, dr: u32, mlen: u32) {
-        self.numbers([l.into(), q, n.into(), dx.into(), dr.into(), mlen.into()]);
+    /// The last line again, once with each of these editions as a further number.
+    fn in_editions(&mut self, editions: &[u32]) {
+        let line = self.0.last().expect("a line").clone();
+        for edition in editions {
+            self.octets(&[&line[..], format!(" {edition}").as_bytes()].concat());
+        }
     }
 }
 
@@ -42,7 +70,7 @@ fn largest_n(l: u32, d: u32) -> u32 {
     n
 }
 
-/// Lines that document 01 prints or describes.
+/// Lines that document 01 prints or describes, and lines with the edition of 02's Q-7.
 fn worked(out: &mut Lines) {
     for line in [
         "4 1459 2 1 1 4",
@@ -65,6 +93,15 @@ fn worked(out: &mut Lines) {
         "4 467424411 1201 1 1 2402",
         "4 467424412 1201 1 1 2402",
         "4 467424413 1201 1 1 2402",
+        "4 1459 2 1 1 4 0",
+        "4 1459 2 1 1 4 1",
+        "4 1459 2 1 1 4 2",
+        "4 1459 2 1 1 4 3",
+        "4 1459 2 1 1 4 01",
+        "4 1459 2 1 1 4 1 1",
+        "4 1455 2 1 1 4 3",
+        "4 1459 2 1 1 3 3",
+        "4 65521 2 1 1 4 2",
     ] {
         out.text(line);
     }
@@ -155,7 +192,21 @@ fn limits_of_the_others(out: &mut Lines) {
     }
 }
 
-/// Every combination of the refusals 1 to 5, in four ways.
+/// Right and wrong editions of sets that are accepted, and of sets with q or mlen just refused.
+fn limits_of_the_edition(out: &mut Lines) {
+    for (l, b) in SMALL {
+        for (dx, dr) in [(1, 1), (2, 2)] {
+            let at = bound(l, 2, dx + dr);
+            for (q, mlen) in [(at + 1, 2 * b), (at, 2 * b), (at + 1, 2 * b + 1)] {
+                out.set(l, q, 2, dx, dr, mlen);
+                out.in_editions(&EDITIONS);
+            }
+        }
+    }
+}
+
+/// Every combination of the refusals 1 to 5, in four ways, without an edition, with both and with
+/// a wrong one.
 fn several_refusals(out: &mut Lines) {
     for mask in 0..32u32 {
         for way in 0..4usize {
@@ -181,93 +232,78 @@ fn several_refusals(out: &mut Lines) {
                 mlen = [3, 3, 7, u32::MAX][way];
             }
             out.set(l, q, n, dx, dr, mlen);
+            out.in_editions(&[1, 2, [0, 3, 257, u32::MAX][way]]);
         }
     }
 }
 
-/// Six fields, one of them replaced.
-fn with_field(at: usize, field: &[u8]) -> Vec<u8> {
-    let mut fields: Vec<&[u8]> = vec![b"4", b"1459", b"2", b"1", b"1", b"4"];
-    fields[at] = field;
-    fields.join(&b' ')
-}
+/// Fields that are no number, or that are another number than the line's own.
+const OTHER_FIELDS: [&str; 22] = [
+    "",
+    "a",
+    "Z",
+    "-",
+    "+",
+    "-0",
+    "+0",
+    "00",
+    "01",
+    "000",
+    "0000000000",
+    "0",
+    "10",
+    "4294967295",
+    "4294967296",
+    "4294967300",
+    "9999999999",
+    "10000000000",
+    "99999999999",
+    "18446744073709551615",
+    "18446744073709551616",
+    "9999999999999999999999999999999999999999",
+];
 
-fn malformed_fields(out: &mut Lines) {
-    let good = ["4", "1459", "2", "1", "1", "4"];
-    for (at, value) in good.iter().enumerate() {
-        let number: u128 = value.parse().expect("a number");
-        for power in [32, 64] {
-            out.octets(&with_field(
-                at,
-                (number + (1 << power)).to_string().as_bytes(),
-            ));
-        }
+/// A number written wrongly, and with a power of two added.
+fn misspelt(value: &str) -> Vec<String> {
+    let number: u128 = value.parse().expect("a number");
+    let mut fields = vec![
+        (number + (1 << 32)).to_string(),
+        (number + (1 << 64)).to_string(),
         // 2^128 + number.
-        let past_128 = format!("3402823669209384634633746074317{}", 68_211_456 + number);
-        out.octets(&with_field(at, past_128.as_bytes()));
-        for field in [
-            format!("+{value}"),
-            format!("-{value}"),
-            format!("0{value}"),
-            format!("00{value}"),
-            format!("{:0>40}", value),
-            format!("{value}a"),
-            format!("a{value}"),
-            format!("{value}.0"),
-            format!("0x{value}"),
-            format!("{value}e0"),
-            format!("{value}u"),
-            format!("{value},"),
-            format!("_{value}"),
-            format!("{value}/"),
-            format!("{value}:"),
-            format!("\t{value}"),
-            format!("{value}\t"),
-            format!("{value}\r"),
-            format!("{value}\0"),
-            format!("\0{value}"),
-            format!("{value}\u{b2}"),
-            format!("{value}\u{a0}"),
-            format!("\u{ff14}{value}"),
-            format!("\u{feff}{value}"),
-        ] {
-            out.octets(&with_field(at, field.as_bytes()));
-        }
-        for field in [
-            "",
-            "a",
-            "Z",
-            "-",
-            "+",
-            "-0",
-            "+0",
-            "00",
-            "01",
-            "000",
-            "0000000000",
-            "0",
-            "10",
-            "4294967295",
-            "4294967296",
-            "4294967300",
-            "9999999999",
-            "10000000000",
-            "99999999999",
-            "18446744073709551615",
-            "18446744073709551616",
-            "9999999999999999999999999999999999999999",
-        ] {
-            out.octets(&with_field(at, field.as_bytes()));
-        }
-        for octet in [0, 1, 11, 12, 127, 128, 160, 176, 180, 255] {
-            out.octets(&with_field(at, &[octet]));
+        format!("3402823669209384634633746074317{}", 68_211_456 + number),
+        format!("{value:0>40}"),
+    ];
+    for before in [
+        "+", "-", "0", "00", "a", "0x", "_", "\t", "\0", "\u{ff14}", "\u{feff}",
+    ] {
+        fields.push(format!("{before}{value}"));
+    }
+    for after in [
+        "a", ".0", "e0", "u", ",", "/", ":", "\t", "\r", "\0", "\u{b2}", "\u{a0}",
+    ] {
+        fields.push(format!("{value}{after}"));
+    }
+    fields
+}
+
+/// A well-formed line with each of its fields replaced.
+fn malformed_fields(out: &mut Lines, line: &str) {
+    let good: Vec<&[u8]> = line.split(' ').map(str::as_bytes).collect();
+    for (at, value) in line.split(' ').enumerate() {
+        let mut others: Vec<Vec<u8>> = Vec::new();
+        others.extend(misspelt(value).into_iter().map(String::into_bytes));
+        others.extend(OTHER_FIELDS.map(|field| field.as_bytes().to_vec()));
+        others.extend([0, 1, 11, 12, 127, 128, 160, 176, 180, 255].map(|octet| vec![octet]));
+        for other in &others {
+            let mut fields = good.clone();
+            fields[at] = other;
+            out.octets(&fields.join(&b' '));
         }
     }
 }
 
-fn malformed_separators(out: &mut Lines) {
-    let line = b"4 1459 2 1 1 4";
-    let spaces: Vec<usize> = (0..line.len()).filter(|&i| line[i] == b' ').collect();
+/// A well-formed line with each of its spaces replaced.
+fn malformed_separators(out: &mut Lines, line: &str) {
     let separators: [&[u8]; 14] = [
         b"",
         b"  ",
@@ -284,103 +320,149 @@ fn malformed_separators(out: &mut Lines) {
         b"\xa0",
         b"\xc2\xa0",
     ];
-    for at in spaces {
+    for (at, _) in line.match_indices(' ') {
+        let (before, after) = (&line.as_bytes()[..at], &line.as_bytes()[at + 1..]);
         for separator in separators {
-            out.octets(&[&line[..at], separator, &line[at + 1..]].concat());
+            out.octets(&[before, separator, after].concat());
         }
     }
-    for text in [
-        "",
-        " ",
-        "  ",
-        "     ",
-        "      ",
-        "\t",
-        "\r",
-        "\0",
-        "0",
-        "4",
-        "4 ",
-        " 4",
-        "4 1459",
-        "4 1459 2",
-        "4 1459 2 1",
-        "4 1459 2 1 ",
-        "4 1459 2 1 1 ",
-        "4 1459 2 1 1  ",
-        " 4 1459 2 1 1",
-        " 1459 2 1 1 4",
-        " 4 1459 2 1 1 4",
-        "  4 1459 2 1 1 4",
-        "4 1459 2 1 1 4 ",
-        "4 1459 2 1 1 4  ",
-        " 4 1459 2 1 1 4 ",
-        "4 1459 2 1 1 4\r",
-        "4 1459 2 1 1 4\t",
-        "4 1459 2 1 1 4 4",
-        "4 1459 2 1 1 4 0",
-        "4 1459 2 1 1 4 x",
-        "4 1459 2 1 1 4 # a note",
-        "4 1459 2 1 1 4 4 1459 2 1 1 4",
-        "0 0 0 0 0 0",
-        "0 0 0 0 0",
-        "0 0 0 0 0 0 0",
-        "4294967295 4294967295 4294967295 4294967295 4294967295 4294967295",
-        "4294967296 4294967296 4294967296 4294967296 4294967296 4294967296",
-        // Malformed, and refused by every number of the set as well.
-        "3 0 0 0 0 01",
-        "03 0 1 3 3 5",
-        "17 0 4097 3 0",
-        "l q n dX dr mlen",
-        "l=4 q=1459 n=2 dX=1 dr=1 mlen=4",
-        "\"4 1459 2 1 1 4\"",
-        "4;1459;2;1;1;4",
-    ] {
-        out.text(text);
-    }
 }
 
-/// Every octet but the newline alone, before and after a well-formed line, and inside.
+/// Lines with too few or too many fields, with spaces around them, and no numbers at all.
+const OTHER_LINES: [&str; 64] = [
+    "",
+    " ",
+    "  ",
+    "     ",
+    "      ",
+    "\t",
+    "\r",
+    "\0",
+    "0",
+    "4",
+    "4 ",
+    " 4",
+    "4 1459",
+    "4 1459 2",
+    "4 1459 2 1",
+    "4 1459 2 1 ",
+    "4 1459 2 1 1 ",
+    "4 1459 2 1 1  ",
+    " 4 1459 2 1 1",
+    " 1459 2 1 1 4",
+    " 4 1459 2 1 1 4",
+    "  4 1459 2 1 1 4",
+    "4 1459 2 1 1 4 ",
+    "4 1459 2 1 1 4  ",
+    " 4 1459 2 1 1 4 ",
+    "4 1459 2 1 1 4\r",
+    "4 1459 2 1 1 4\t",
+    "4 1459 2 1 1 4 4",
+    "4 1459 2 1 1 4 x",
+    "4 1459 2 1 1 4 # a note",
+    "4 1459 2 1 1 4 4 1459 2 1 1 4",
+    // An edition with spaces around it, and further numbers after it.
+    "4 1459 2 1 1 4  1",
+    "4 1459 2 1 1 4 2 ",
+    "4 1459 2 1 1 4 2  ",
+    " 4 1459 2 1 1 4 2",
+    "4 1459 2 1 1 4 2\r",
+    "4 1459 2 1 1 4 2 2",
+    "4 1459 2 1 1 4 0 0",
+    "4 1459 2 1 1 4 3 1",
+    "4 1459 2 1 1 4 2 1 1",
+    "4 1459 2 1 1 4 2 x",
+    "4 1459 2 1 1 4 2 # a note",
+    "1 4 1459 2 1 1 4",
+    "4 1459 2 1 1 2",
+    "0 0 0 0 0 0",
+    "0 0 0 0 0",
+    "0 0 0 0 0 0 0",
+    "0 0 0 0 0 0 0 0",
+    "4294967295 4294967295 4294967295 4294967295 4294967295 4294967295",
+    "4294967296 4294967296 4294967296 4294967296 4294967296 4294967296",
+    "4294967295 4294967295 4294967295 4294967295 4294967295 4294967295 4294967295",
+    "4294967295 4294967295 4294967295 4294967295 4294967295 4294967295 4294967296",
+    // Malformed, and refused by every number of the set as well.
+    "3 0 0 0 0 01",
+    "03 0 1 3 3 5",
+    "17 0 4097 3 0",
+    "3 0 0 3 3 1 03",
+    "03 0 1 3 3 5 3",
+    "3 0 0 3 3 1 3 0",
+    "l q n dX dr mlen",
+    "l q n dX dr mlen edition",
+    "l=4 q=1459 n=2 dX=1 dr=1 mlen=4",
+    "\"4 1459 2 1 1 4\"",
+    "4;1459;2;1;1;4",
+    "4;1459;2;1;1;4;2",
+];
+
+/// Every octet but the newline, before and after a well-formed line, and inside.
 fn every_octet(out: &mut Lines) {
     for octet in (0..=255u8).filter(|&octet| octet != b'\n') {
-        out.octets(&[&[octet], &b"4 1459 2 1 1 4"[..]].concat());
-        out.octets(&[&b"4 1459 2 1 1 4"[..], &[octet]].concat());
+        for line in WELL_FORMED.map(str::as_bytes) {
+            out.octets(&[&[octet], line].concat());
+            out.octets(&[line, &[octet]].concat());
+        }
         out.octets(&[&b"4 14"[..], &[octet], &b"9 2 1 1 4"[..]].concat());
+        // As the edition, and before it.
+        out.octets(&[&b"4 1459 2 1 1 4 "[..], &[octet]].concat());
+        out.octets(&[&b"4 1459 2 1 1 4"[..], &[octet], &b"2"[..]].concat());
     }
 }
 
-fn long_lines(out: &mut Lines) {
-    let line = b"4 1459 2 1 1 4";
+/// Lines of this length from a well-formed one and a filler: it is at the front, at the end, or
+/// neither.
+fn filled_lines(out: &mut Lines, line: &[u8], length: usize) {
+    for filler in [b' ', b'0', b'4', b'x', 0, 255] {
+        let rest = vec![filler; length - line.len()];
+        out.octets(&[line, &rest].concat());
+        if length <= 256 {
+            out.octets(&[&rest, line].concat());
+            out.octets(&vec![filler; length]);
+        }
+    }
+}
+
+/// Lines up to 80 octets, and longer ones.
+fn long_lines(out: &mut Lines, line: &str) {
+    let line = line.as_bytes();
     for length in [
         64, 65, 66, 79, 80, 81, 82, 127, 128, 200, 255, 256, 270, 5000,
     ] {
-        for filler in [b' ', b'0', b'4', b'x', 0, 255] {
-            // Well-formed at the front, well-formed at the end, and neither.
-            let rest = vec![filler; length - line.len()];
-            out.octets(&[&line[..], &rest].concat());
-            if length <= 256 {
-                out.octets(&[&rest, &line[..]].concat());
-                out.octets(&vec![filler; length]);
-            }
-        }
-        // Six numbers, the second with leading zeros.
+        filled_lines(out, line, length);
+        // The second number with leading zeros.
         let zeros = vec![b'0'; length - line.len()];
-        out.octets(&[b"4 ", &zeros[..], b"1459 2 1 1 4"].concat());
-        // As many numbers as there is room for.
-        let ones: Vec<u8> = b"1 ".iter().copied().cycle().take(length).collect();
-        out.octets(&ones);
-        // A well-formed line repeated every 80 octets, and every 15.
-        let mut padded = line.to_vec();
-        padded.resize(80, b' ');
-        out.octets(&padded.into_iter().cycle().take(length).collect::<Vec<u8>>());
-        let mut padded = line.to_vec();
-        padded.push(b' ');
-        out.octets(&padded.into_iter().cycle().take(length).collect::<Vec<u8>>());
+        out.octets(&[&line[..2], &zeros, &line[2..]].concat());
+        // As many numbers as there is room for, and the line again and again: every 80 octets, and
+        // every time after one space.
+        for (part, every) in [(&b"1"[..], 2), (line, 80), (line, line.len() + 1)] {
+            let mut part = part.to_vec();
+            part.resize(every, b' ');
+            out.octets(&part.into_iter().cycle().take(length).collect::<Vec<u8>>());
+        }
     }
     // Past a block of 64 KiB.
     let mut line = line.to_vec();
     line.resize(70_000, b' ');
     out.octets(&line);
+}
+
+/// A random q of 32 bits, mostly near a multiple of the bound.
+fn random_q(at: u128, prng: &mut Prng) -> u128 {
+    let q = match prng.below(6) {
+        0 => u128::from(prng.number() as u32),
+        1 => u128::from(prng.below(MOST_Q as u64 + 1)),
+        2 => MOST_Q - u128::from(prng.below(1000)),
+        3 => at + u128::from(prng.below(3)),
+        _ => {
+            // Close to a multiple of the bound.
+            let s = 1 + u128::from(prng.below((MOST_Q / at) as u64 + 1));
+            s * at + u128::from(prng.below(3)) - 1
+        }
+    };
+    q.min(u128::from(u32::MAX))
 }
 
 /// A random well-formed line, mostly near acceptance.
@@ -393,19 +475,7 @@ fn random_line(out: &mut Lines, prng: &mut Prng) {
         largest_n(l, dx + dr)
     };
     let n = 2 + prng.below(u64::from(most_n) - 1) as u32;
-    let at = bound(l, n, dx + dr);
-    let q = match prng.below(6) {
-        0 => u128::from(prng.number() as u32),
-        1 => u128::from(prng.below(MOST_Q as u64 + 1)),
-        2 => MOST_Q - u128::from(prng.below(1000)),
-        3 => at + u128::from(prng.below(3)),
-        _ => {
-            // Close to a multiple of the bound.
-            let s = 1 + u128::from(prng.below((MOST_Q / at) as u64 + 1));
-            s * at + u128::from(prng.below(3)) - 1
-        }
-    };
-    let q = q.min(u128::from(u32::MAX));
+    let q = random_q(bound(l, n, dx + dr), prng);
     let mlen = match prng.below(8) {
         0 => prng.number() as u32 % (n * b + 2 * b),
         1 => n * b,
@@ -413,6 +483,11 @@ fn random_line(out: &mut Lines, prng: &mut Prng) {
         _ => b * prng.below(u64::from(n) + 1) as u32,
     };
     out.set(l, q, n, dx, dr, mlen);
+    match prng.below(6) {
+        0 => out.in_editions(&[prng.number() as u32]),
+        1..=3 => out.in_editions(&[prng.below(4) as u32]),
+        _ => {}
+    }
 }
 
 fn main() -> io::Result<()> {
@@ -422,11 +497,17 @@ fn main() -> io::Result<()> {
     limits_of_q(&mut out);
     bounds_that_must_not_wrap(&mut out);
     limits_of_the_others(&mut out);
+    limits_of_the_edition(&mut out);
     several_refusals(&mut out);
-    malformed_fields(&mut out);
-    malformed_separators(&mut out);
+    for line in WELL_FORMED {
+        malformed_fields(&mut out, line);
+        malformed_separators(&mut out, line);
+        long_lines(&mut out, line);
+    }
+    for line in OTHER_LINES {
+        out.text(line);
+    }
     every_octet(&mut out);
-    long_lines(&mut out);
     let mut prng = Prng::new(0x0161_6F70_6861_6E74);
     for _ in 0..300 {
         random_line(&mut out, &mut prng);
@@ -435,7 +516,7 @@ fn main() -> io::Result<()> {
     for i in (1..out.0.len()).rev() {
         out.0.swap(i, prng.below(i as u64 + 1) as usize);
     }
-    // The lines of 01 in their own order come first.
+    // The worked lines in their own order come first.
     let mut lines = Lines(Vec::new());
     worked(&mut lines);
     lines.0.append(&mut out.0);

@@ -1,5 +1,5 @@
 //! Octets that the papers print, or that follow from what they print: set A of 01's worked list with its cases 2 and 3,
-//! and cases of document 02's Q-3.
+//! and cases of document 02's.
 
 use reference::set::set;
 use reference::Set;
@@ -22,6 +22,9 @@ pub const CIPHERTEXT: [u8; 24] = [
 
 /// 1459, which is dropped where it is drawn, and refused where it is given.
 pub const DROPPED_GROUP: [u8; 2] = [0xB3, 0x05];
+
+/// What edition 2 draws behind case 2's octets and throws away: 1459, which is dropped, 1 and 2.
+pub const THROWN: [u8; 6] = [0xB3, 0x05, 0x01, 0, 0x02, 0];
 
 /// Random octets for the keys of case 2, with the octets used, the dropped groups and the dropped elements: 01 before
 /// them; 00 before u_x, 03 and 02 before u_y and 1459 behind it.

@@ -7,8 +7,43 @@
 
 use reference::Set;
 
-/// Declares the functions of the interface, each with the six numbers of the set in front, and a
-/// wrapper for each that takes the set and slices.
+/// The set as C has it, `giophantus_set`.
+#[repr(C)]
+struct CSet {
+    l: u32,
+    q: u32,
+    n: u32,
+    dx: u32,
+    dr: u32,
+    mlen: u32,
+    edition: u32,
+}
+
+impl From<Set> for CSet {
+    fn from(set: Set) -> Self {
+        let Set {
+            l,
+            q,
+            n,
+            dx,
+            dr,
+            mlen,
+            edition,
+        } = set;
+        CSet {
+            l,
+            q,
+            n,
+            dx,
+            dr,
+            mlen,
+            edition,
+        }
+    }
+}
+
+/// Declares the functions of the interface, each with the set by value in front, and a wrapper for
+/// each that takes the set and slices.
 macro_rules! interface {
     ($($name:ident as $symbol:ident($($rest:tt)*);)*) => {
         $(interface!(@ $name $symbol [] [] [] $($rest)*);)*
@@ -20,12 +55,12 @@ macro_rules! interface {
         pub fn $name(set: Set, $($rust)*) -> u32 {
             #[link(name = "giophantus", kind = "static")]
             extern "C" {
-                fn $symbol(l: u32, q: u32, n: u32, dx: u32, dr: u32, mlen: u32, $($c)*) -> u32;
+                fn $symbol(set: CSet, $($c)*) -> u32;
             }
             // SAFETY: the function has this signature in C. Each pointer comes from a slice or a
             // reference that outlives the call and goes with that slice's length; it is never null
             // and, where the function writes, comes from an exclusive reference.
-            unsafe { $symbol(set.l, set.q, set.n, set.dx, set.dr, set.mlen, $($pass)*) }
+            unsafe { $symbol(set.into(), $($pass)*) }
         }
     };
     // One argument after another: a slice that is read, a slice that is written, a number.

@@ -138,10 +138,16 @@ fn dropping(prng: &mut Prng) -> u64 {
     [0, 0, 4, 7][prng.below(4) as usize]
 }
 
+/// The elements that keygen draws below q: those of the public key but the constant, and in edition 2 one that it throws
+/// away.
+pub fn key_elements(set: Set) -> usize {
+    count(set.dx) - 1 + usize::from(set.edition == 2)
+}
+
 /// Two small elements with any top coefficients, and the draws below q of keygen.
 pub fn keygen_parts(set: Set, prng: &mut Prng) -> [Vec<u8>; 3] {
     let eighths = dropping(prng);
-    let coefficients = (count(set.dx) - 1) * set.places();
+    let coefficients = key_elements(set) * set.places();
     [
         small_draw(set, prng),
         small_draw(set, prng),

@@ -10,6 +10,7 @@
 
 pub mod buffer;
 pub mod cases;
+pub mod claimed;
 pub mod compare;
 pub mod ffi;
 pub mod inputs;

@@ -1,7 +1,10 @@
 //! The order of the refusals.
 
 /// The refusals in the order in which they are tested: where several apply, the first is given.
-const ORDER: [u32; 12] = [11, 1, 2, 3, 4, 5, 6, 7, 8, 14, 9, 10];
+const ORDER: [u32; 13] = [11, 1, 2, 3, 4, 5, 18, 6, 7, 8, 14, 9, 10];
+
+/// The refusals of a set, which every call tests first.
+pub const OF_SET: [u32; 6] = [1, 2, 3, 4, 5, 18];
 
 /// The length test. It and those before it leave the work words untouched.
 const LENGTH: u32 = 6;

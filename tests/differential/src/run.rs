@@ -36,6 +36,7 @@ pub struct Shape {
     pub l: u32,
     pub n: u32,
     pub qlen: usize,
+    pub edition: u32,
 }
 
 impl Shape {
@@ -44,6 +45,7 @@ impl Shape {
             l: set.l,
             n: set.n,
             qlen: set.qlen(),
+            edition: set.edition,
         }
     }
 }
@@ -101,7 +103,7 @@ impl Run {
     pub fn judge(&mut self, made: Made) {
         self.calls += 1;
         let shapes = self.seen.entry((made.call, made.number)).or_default();
-        if !(1..=5).contains(&made.number) {
+        if !order::OF_SET.contains(&made.number) {
             shapes.insert(Shape::of(made.set));
         }
         if let Some(difference) = first_difference(&made) {
@@ -161,8 +163,8 @@ fn first_difference(made: &Made) -> Option<String> {
 
 pub fn show_set(set: Set) -> String {
     format!(
-        "l {} q {} n {} dx {} dr {} mlen {}",
-        set.l, set.q, set.n, set.dx, set.dr, set.mlen
+        "l {} q {} n {} dx {} dr {} mlen {} edition {}",
+        set.l, set.q, set.n, set.dx, set.dr, set.mlen, set.edition
     )
 }
 
@@ -216,8 +218,26 @@ fn usage(group: &str, problem: &str) -> ! {
     exit(2)
 }
 
-/// Runs a group: one round, or rounds with the following seeds until the time is up. Every call has
-/// to have given each number that is listed for it, so that no test is empty.
+/// Every call gave each number that is listed for it, so that no test is empty; each that isn't a refusal of the set in
+/// both editions.
+fn complete(run: &Run, numbers: &[(&'static str, &[u32])]) {
+    for &(call, list) in numbers {
+        for number in list {
+            let Some(shapes) = run.seen.get(&(call, *number)) else {
+                eprintln!("NOT SEEN: {call} never answered {number}");
+                run.stop();
+            };
+            let editions: BTreeSet<u32> = shapes.iter().map(|shape| shape.edition).collect();
+            if !run.is_short() && !order::OF_SET.contains(number) && editions.len() < 2 {
+                eprintln!("NOT SEEN: {call} answered {number} in one edition alone");
+                run.stop();
+            }
+        }
+    }
+}
+
+/// Runs a group: one round, or rounds with the following seeds until the time is up. Every call has to have given each
+/// number that is listed for it, in a whole round in both editions.
 pub fn run_group(
     group: &'static str,
     numbers: &[(&'static str, &[u32])],
@@ -232,14 +252,7 @@ pub fn run_group(
         run.trace = arguments.trace;
         run.short = arguments.short;
         round(&mut run);
-        for &(call, list) in numbers {
-            for &number in list {
-                if !run.seen.contains_key(&(call, number)) {
-                    eprintln!("NOT SEEN: {call} never answered {number}");
-                    run.stop();
-                }
-            }
-        }
+        complete(&run, numbers);
         calls += run.calls;
         rounds += 1;
         if arguments.time.is_none_or(|time| start.elapsed() >= time) {

@@ -8,6 +8,8 @@ use reference::Set;
 pub const RANGES: [u32; 4] = [2, 4, 8, 16];
 /// The four pairs of dX and dr.
 pub const DEGREES: [(u32, u32); 4] = [(1, 1), (1, 2), (2, 1), (2, 2)];
+/// The two editions.
+pub const EDITIONS: [u32; 2] = [1, 2];
 /// The largest q.
 pub const MOST_Q: u32 = 2_147_483_647;
 
@@ -81,8 +83,13 @@ pub fn random_mlen(l: u32, n: u32, prng: &mut Prng) -> u32 {
     }
 }
 
+/// The set in one edition or the other.
+pub fn in_any_edition(set: Set, prng: &mut Prng) -> Set {
+    set.in_edition(EDITIONS[prng.below(2) as usize])
+}
+
 /// All accepted sets with this n, l and degrees: q at its limits, above a power of two and
-/// anywhere.
+/// anywhere; each in one edition or the other.
 pub fn sets_with(l: u32, n: u32, (dx, dr): (u32, u32), prng: &mut Prng) -> Vec<Set> {
     let Some(least) = least_q(l, n, dx + dr) else {
         return Vec::new();
@@ -92,8 +99,34 @@ pub fn sets_with(l: u32, n: u32, (dx, dr): (u32, u32), prng: &mut Prng) -> Vec<S
     moduli.push(random_modulus(least, prng));
     moduli
         .into_iter()
-        .map(|q| set(l, q, n, dx, dr, random_mlen(l, n, prng)))
+        .map(|q| {
+            let set = set(l, q, n, dx, dr, random_mlen(l, n, prng));
+            in_any_edition(set, prng)
+        })
         .collect()
+}
+
+/// Beside the least q of a set, the first of these above it: where there is one, just above a power of two, so that
+/// nearly half of all groups are dropped.
+const NEXT: [u32; 3] = [65_537, 1_073_741_825, MOST_Q];
+
+/// For every l and degree that these n allow, with full messages: the set with the least q and, where there is one, the
+/// set with the next.
+pub fn least_and_next(rings: &[u32]) -> Vec<(Set, Option<Set>)> {
+    let mut list = Vec::new();
+    for &n in rings {
+        for l in RANGES {
+            for (dx, dr) in DEGREES {
+                let Some(least) = least_q(l, n, dx + dr) else {
+                    continue;
+                };
+                let next = NEXT.into_iter().find(|&q| q > least);
+                let set = |q| set(l, q, n, dx, dr, n * bits_of(l));
+                list.push((set(least), next.map(set)));
+            }
+        }
+    }
+    list
 }
 
 /// The accepted sets with this q, n 2, 8 or 81 and full messages.

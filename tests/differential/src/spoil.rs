@@ -12,11 +12,14 @@ fn pick(list: &[u32], prng: &mut Prng) -> u32 {
     list[prng.below(list.len() as u64) as usize]
 }
 
-/// The set with refusal `number` (1 to 5) added: numbers next to what is accepted, and far off.
+/// Editions that aren't accepted: next to those that are, the same modulo 2^8 and 2^16, and far off.
+pub const WRONG_EDITIONS: [u32; 8] = [0, 3, 4, 257, 258, 65_538, 1 << 31, u32::MAX];
+
+/// The set with a refusal of sets added: numbers next to what is accepted, and far off.
 /// The refusals of the other numbers stay as they are where l, n and the degrees are accepted.
 pub fn spoil_set(set: Set, number: u32, prng: &mut Prng) -> Set {
     let mut spoiled = set;
-    let accepted = reference::check(Set { mlen: 0, ..set }) == 0;
+    let accepted = reference::check(Set { mlen: 0, ..set }.in_edition(1)) == 0;
     match number {
         1 => spoiled.l = pick(&[0, 1, 3, 5, 6, 7, 9, 15, 17, 32, 258, u32::MAX], prng),
         2 => spoiled.n = pick(&[0, 1, 4097, 65_538, 1 << 31, u32::MAX], prng),
@@ -47,7 +50,8 @@ pub fn spoil_set(set: Set, number: u32, prng: &mut Prng) -> Set {
             list.retain(|&mlen| mlen > whole || mlen % b != 0);
             spoiled.mlen = pick(&list, prng);
         }
-        _ => unreachable!("1 to 5"),
+        18 => spoiled.edition = pick(&WRONG_EDITIONS, prng),
+        _ => unreachable!("a refusal of sets"),
     }
     spoiled
 }
@@ -117,19 +121,28 @@ pub fn spoiled_number(limit: u32, bits: u32, prng: &mut Prng) -> u32 {
     }
 }
 
-/// A way to make a call wrong: a mask, bit k for kind k. Kinds 0 to 4 are always the set's refusals 1 to
-/// 5.
+/// A way to make a call wrong: a mask. Its lowest bits are the refusals of sets, bit k above them is the call's kind k.
 #[derive(Clone, Copy)]
 pub struct Way(u32);
 
+/// How many bits are the refusals of sets.
+const OF_SET: u32 = order::OF_SET.len() as u32;
+
 impl Way {
     pub fn has(self, kind: u32) -> bool {
-        self.0 >> kind & 1 == 1
+        self.0 >> (OF_SET + kind) & 1 == 1
+    }
+
+    /// The refusals of sets that it has.
+    fn of_set(self) -> impl Iterator<Item = u32> {
+        let bits = (0..).zip(order::OF_SET);
+        let some = bits.filter(move |(bit, _)| self.0 >> bit & 1 == 1);
+        some.map(|(_, number)| number)
     }
 
     pub fn set(self, set: Set, prng: &mut Prng) -> Set {
-        let numbers = (1..=5).filter(|number| self.has(number - 1));
-        numbers.fold(set, |set, number| spoil_set(set, number, prng))
+        self.of_set()
+            .fold(set, |set, number| spoil_set(set, number, prng))
     }
 
     pub fn length(self, kind: u32, length: usize, prng: &mut Prng) -> usize {
@@ -173,9 +186,9 @@ impl Way {
     /// The refusal that is given where each kind is that of `numbers`; 0 is a kind that isn't refused.
     pub fn refusal(self, numbers: &[u32]) -> u32 {
         let kinds = (0..).zip(numbers);
-        let applying = kinds.filter(|(kind, _)| self.has(*kind));
-        let applying: Vec<u32> = applying.map(|(_, &number)| number).collect();
-        order::first(&applying)
+        let own = kinds.filter(|(kind, _)| self.has(*kind));
+        let own = own.map(|(_, &number)| number);
+        order::first(&self.of_set().chain(own).collect::<Vec<_>>())
     }
 
     /// Random octets cut anywhere, by one, or to none.
@@ -191,18 +204,19 @@ impl Way {
     }
 }
 
-/// The ways in which a call of so many kinds is made wrong: each kind alone, each pair, and `more`
-/// random choices of several.
+/// The ways in which a call of so many kinds is made wrong: each kind alone and each pair, the refusals of sets among
+/// them, and `more` random choices of several.
 pub fn ways(kinds: u32, more: usize, prng: &mut Prng) -> Vec<Way> {
+    let all = OF_SET + kinds;
     let mut list = Vec::new();
-    for first in 0..kinds {
+    for first in 0..all {
         list.push(Way(1 << first));
         for second in 0..first {
             list.push(Way(1 << first | 1 << second));
         }
     }
     for _ in 0..more {
-        let mask = (prng.number() & prng.number()) as u32 & ((1 << kinds) - 1);
+        let mask = (prng.number() & prng.number()) as u32 & ((1 << all) - 1);
         list.push(Way(mask));
     }
     list

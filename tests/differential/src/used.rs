@@ -17,10 +17,11 @@ fn small(set: Set) -> u64 {
     u64::from(set.n * set.l.ilog2()).div_ceil(8)
 }
 
-/// Two small elements, the coefficients of each key element but the constant, the dropped groups and the dropped
-/// elements.
+/// Two small elements, the coefficients of each key element but the constant, in edition 2 as many as the constant has,
+/// the dropped groups and the dropped elements.
 pub fn keygen(set: Set, dropped_groups: u64, dropped_elements: u64) -> u64 {
-    let coefficients = (monomials(set.dx) - 1) * u64::from(set.n);
+    let drawn = monomials(set.dx) - 1 + u64::from(set.edition == 2);
+    let coefficients = drawn * u64::from(set.n);
     let fixed = 2 * small(set) + qlen(set) * coefficients;
     fixed + qlen(set) * dropped_groups + small(set) * dropped_elements
 }

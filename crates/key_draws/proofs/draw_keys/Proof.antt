@@ -6,12 +6,12 @@ use mathlib.Core.Path.{_≡_, sym, ap, ap₂, _∙_}
 use lib.ListN.{length}
 use borrow.Author.Needs.{needs}
 use Rattle.definitions.specs.Parameters.{qlen, smallLength}
-use Rattle.definitions.specs.Draws.{Drawn}
-use Rattle.definitions.specs.Calls.{halfDraws, halvesUsed, keyDraws}
+use Rattle.definitions.specs.Calls.{halfDraws, halvesUsed, keyTerms, keyDraws}
+use Rattle.definitions.proofs.Parameters.{accepted-set}
 use Rattle.parameters.specs.Answers.{setFrom}
 use Rattle.draws.proofs.Runs.{said-complete, said-exhausted}
-use Rattle.key_draws.specs.Keys.{wordsHalves, wordsTerms}
-use Rattle.key_draws.proofs.Words.{halves-kept, key-words}
+use Rattle.key_draws.specs.Keys.{wordsHalves, wordsDrawn}
+use Rattle.key_draws.proofs.Words.{terms-front, halves-kept, key-words}
 use Rattle.key_draws.proofs.Draws.{enoughOf, octets-room, start-used, used-room, keys-ended-halves, keys-ended-terms, keys-whole}
 use Rattle.key_draws.proofs.draw_keys.Statement.{statement}
 use Rattle.key_draws.proofs.draw_keys.Tie as tie
@@ -65,7 +65,7 @@ both c =
 others : (c : tie.After-known-told2)
     → (let s = start (halves (sized (terms c) .before)) in
     keyDraws (setFrom (s .args .p)) (s .args .random .now)
-    ≡ enoughOf (wordsTerms (setFrom (s .args .p)) (terms c .draw-terms .last .1 .1 .1 .0)) (c .before .groups .given .0 .0) (c .before .groups .given .0 .1 .0))
+    ≡ enoughOf (wordsDrawn (setFrom (s .args .p)) (terms c .draw-terms .last .1 .1 .1 .0)) (c .before .groups .given .0 .0) (c .before .groups .given .0 .1 .0))
 others c = said-complete _ _ (c .before .groups .given .1) (terms c .draw-terms .ensures .0)
 
 -- the octets used
@@ -94,10 +94,11 @@ returns-3 c =
     let d = terms k in
     let h = halves (sized d .before) in
     let s = start h in
-    let p = setFrom (s .args .p) in (
-      keys-whole p (s .args .random .now) _ (both k) (others k) (octets c),
-      key-words p (s .args .random .now) _ (s .pre .0) (d .draw-terms .kept .1 .1 .1 .0 ∙ h .draw-halves .kept .1 .1 .0 ∙ s .pre .1) (both k)
-          (ap (λ (x : Drawn ℕ). x .values) (sym (others k))),
+    let p = setFrom (s .args .p) in
+    let sized = d .draw-terms .kept .1 .1 .1 .0 ∙ h .draw-halves .kept .1 .1 .0 ∙ s .pre .1 in
+    let front = terms-front p (accepted-set p (s .pre .0)) _ sized in (
+      keys-whole p (s .args .random .now) _ (both k) (others k) front (octets c),
+      key-words p (s .args .random .now) _ (s .pre .0) sized (both k) (sym front ∙ ap (keyTerms p) (sym (others k))),
     )
 
 mul-start : tie.Need-mul-start

@@ -1,4 +1,4 @@
--- `draw_terms` is right because the run is lent just the words of the terms, behind those of u_x and u_y.
+-- `draw_terms` is right because the run is lent just the words for the key, behind those of u_x and u_y.
 -- Assumes nothing.
 use native.Mathlib.Omega.{arith}
 use borrow.Author.Needs.{needs}
@@ -9,7 +9,7 @@ use Rattle.key_draws.proofs.Words.{terms-drawn}
 use Rattle.key_draws.proofs.draw_terms.Statement.{statement}
 use Rattle.key_draws.proofs.draw_terms.Tie as tie
 
-abbrev start : tie.After-terms-end → tie.Start
+abbrev start : tie.After-drawn-end → tie.Start
 start c = c .before .before .before .before
 
 set : (c : tie.Start) → Accepted (setFrom (c .args .p))
@@ -23,11 +23,11 @@ draw-below-requires c κs =
 returns : tie.Need-returns
 returns c =
     let run = c .before .before .draw-below in
-    let ended : tie.After-terms-end = search needs in
+    let ended : tie.After-drawn-end = search needs in
     let s = start ended in
     let a = s .args in
     terms-drawn (setFrom (a .p)) (a .random .now) (a .work .now) (run .last .1 .1 .1 .0) (run .result) (s .pre .1)
-    (ended .terms-end .ensures .0) (omega (arith, s .pre .2, ended .terms-end .ensures .1)) (run .kept .1 .1 .1 .0) (run .ensures)
+    (ended .drawn-end .ensures .0) (omega (arith, s .pre .2, ended .drawn-end .ensures .1)) (run .kept .1 .1 .1 .0) (run .ensures)
 
 pub draw-terms-spec : {M : Type 1} → statement M
 draw-terms-spec =

@@ -141,8 +141,9 @@ pub fn limits(options: &Options) -> Done {
     };
     let for_each_group = format!("random octets, and {} for each group", set.coefficient_len());
     let for_each_element = format!("and {} for each element", set.small_len());
-    let rows: [(&str, &dyn Display); 12] = [
+    let rows: [(&str, &dyn Display); 13] = [
         ("set", &set),
+        ("edition", &set.edition()),
         ("bound", &set.bound()),
         ("headroom", &set.headroom()),
         ("counts", &counts),

@@ -23,6 +23,6 @@ fn round(run: &mut Run) {
 }
 
 fn main() {
-    let numbers: [(&str, &[u32]); 1] = [("add", &[0, 1, 2, 3, 4, 5, 6, 8])];
+    let numbers: [(&str, &[u32]); 1] = [("add", &[0, 1, 2, 3, 4, 5, 18, 6, 8])];
     run_group("additions", &numbers, round);
 }

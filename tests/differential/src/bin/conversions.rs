@@ -5,7 +5,7 @@ use std::collections::BTreeSet;
 use differential::compare::{from_octets, to_octets, Kind, KINDS};
 use differential::inputs;
 use differential::run::{run_group, Run};
-use differential::sets::{largest_n, sets_with, DEGREES, MOST_Q, RANGES};
+use differential::sets::{in_any_edition, largest_n, sets_with, DEGREES, MOST_Q, RANGES};
 use differential::spoil::{spoil_coefficient, spoil_input, spoil_length, spoiled_number, ways};
 use reference::set::set;
 use reference::Set;
@@ -157,20 +157,30 @@ fn garbage(run: &mut Run, set: Set, kind: Kind) {
     to_octets(run, set, kind, &words, kind.octets(set));
 }
 
-/// Each refusal, and several at once. Kinds 0 to 4 are the set's refusals, 5 and 6 the lengths, 7
-/// is a coefficient, 8 padding, 9 that of a secret key's second half.
+/// The refusals of octets: two lengths, a coefficient, padding of one element and of another.
+fn from_refusals(set: Set, kind: Kind) -> [u32; 5] {
+    let unused = !(set.n * set.b()).is_multiple_of(8);
+    match (kind.is_packed(), unused) {
+        (true, true) => [6, 6, 0, 7, 7],
+        (true, false) => [6, 6, 0, 0, 0],
+        _ => [6, 6, 8, 0, 0],
+    }
+}
+
+/// Each refusal, and several at once. Kinds 0 and 1 are the lengths, 2 is a coefficient, 3 padding, 4
+/// that of a secret key's second half.
 fn refusals(run: &mut Run, set: Set, kind: Kind, more: usize) {
     let words = inputs::below(kind.limit(set), kind.words(set), &mut run.prng);
     let octets = kind.octets_of(set, &words);
-    let kinds = if kind == Kind::SecretKey { 10 } else { 9 };
+    let kinds = if kind == Kind::SecretKey { 5 } else { 4 };
     for way in ways(kinds, more, &mut run.prng) {
         let prng = &mut run.prng;
         let mut given = octets.clone();
         let mut words = words.clone();
         if kind.is_packed() {
-            way.padding(8, set, &mut given, prng);
+            way.padding(3, set, &mut given, prng);
         }
-        if way.has(7) {
+        if way.has(2) {
             if !kind.is_packed() {
                 spoil_coefficient(set, &mut given, prng);
             }
@@ -179,17 +189,19 @@ fn refusals(run: &mut Run, set: Set, kind: Kind, more: usize) {
         }
         let wrong = way.set(set, prng);
         let (mut octets_length, mut words_length) = (given.len(), words.len());
-        if way.has(5) {
+        if way.has(0) {
             spoil_input(&mut given, prng);
             octets_length = spoil_length(octets_length, prng);
         }
         let mut words_given = words.clone();
-        if way.has(6) {
+        if way.has(1) {
             words_length = spoil_length(words_length, prng);
             words_given.resize(words_length, 0);
         }
-        from_octets(run, wrong, kind, &given, words_length);
-        to_octets(run, wrong, kind, &words_given, octets_length);
+        let (from, _) = from_octets(run, wrong, kind, &given, words_length);
+        let (to, _) = to_octets(run, wrong, kind, &words_given, octets_length);
+        let right = from == way.refusal(&from_refusals(set, kind)) && to == way.refusal(&[6, 6, 8]);
+        run.expect(right, wrong, "the first refusal that applies");
     }
 }
 
@@ -247,7 +259,7 @@ fn worked(run: &mut Run) {
 
 /// No q is accepted: refusal 4, whatever the lengths are.
 fn too_large(run: &mut Run, l: u32, n: u32, (dx, dr): (u32, u32)) {
-    let set = set(l, MOST_Q, n, dx, dr, 0);
+    let set = in_any_edition(set(l, MOST_Q, n, dx, dr, 0), &mut run.prng);
     for kind in KINDS {
         let length = kind.words(set);
         from_octets(run, set, kind, &vec![0; kind.octets(set)], length);
@@ -312,8 +324,8 @@ fn round(run: &mut Run) {
 fn main() {
     let numbers: Vec<(&str, &[u32])> = calls()
         .map(|(call, refused)| match refused {
-            7 => (call, &[0, 1, 2, 3, 4, 5, 6, 7][..]),
-            _ => (call, &[0, 1, 2, 3, 4, 5, 6, 8][..]),
+            7 => (call, &[0, 1, 2, 3, 4, 5, 18, 6, 7][..]),
+            _ => (call, &[0, 1, 2, 3, 4, 5, 18, 6, 8][..]),
         })
         .collect();
     run_group("conversions", &numbers, round);

@@ -6,7 +6,7 @@ use std::collections::{BTreeMap, BTreeSet};
 use differential::compare::{encrypt, keygen, EncryptLengths, KeygenLengths};
 use differential::inputs;
 use differential::run::{run_group, Run};
-use differential::sets::{bits_of, least_q, sets_of, DEGREES, MOST_Q, RANGES};
+use differential::sets::{bits_of, least_q, sets_of, DEGREES, EDITIONS, MOST_Q, RANGES};
 use reference::monomials::count;
 use reference::octets::number_from_octets;
 use reference::set::{bit_length, set};
@@ -40,7 +40,7 @@ impl Call {
     /// The elements that are drawn below q.
     fn elements(self, set: Set) -> usize {
         match self {
-            Call::Keygen => count(set.dx) - 1,
+            Call::Keygen => inputs::key_elements(set),
             Call::Encrypt => count(set.dr),
         }
     }
@@ -82,8 +82,8 @@ impl Tried {
     }
 }
 
-/// A set without its message length: l, q, n, dX and dr.
-type Numbers = [u32; 5];
+/// A set without its message length: l, q, n, dX, dr and the edition.
+type Numbers = [u32; 6];
 
 #[derive(Default)]
 struct All {
@@ -93,7 +93,7 @@ struct All {
 }
 
 fn numbers_of(set: Set) -> Numbers {
-    [set.l, set.q, set.n, set.dx, set.dr]
+    [set.l, set.q, set.n, set.dx, set.dr, set.edition]
 }
 
 /// What a call gave.
@@ -432,6 +432,15 @@ fn claimed_sets(q: u32) -> Vec<Set> {
     all.filter(fits).collect()
 }
 
+/// The editions that a call has to be tried in with this n.
+fn claimed_editions(call: Call, n: u32) -> &'static [u32] {
+    match (call, n) {
+        (Call::Keygen, _) => &[1, 2],
+        (Call::Encrypt, 81 | 1201) => &[2],
+        _ => &[1],
+    }
+}
+
 fn was_tried(run: &Run, all: &All, call: Call, set: Set, list: Vec<Tried>) {
     for what in list {
         let seen = all.tried.contains(&(call, numbers_of(set), what));
@@ -460,12 +469,17 @@ fn complete(run: &Run, all: &All) {
     for call in [Call::Keygen, Call::Encrypt] {
         for q in above.into_iter().chain([36, 2_147_483_647]) {
             for set in claimed_sets(q) {
-                was_tried(run, all, call, set, claims(call, set));
+                for &edition in claimed_editions(call, set.n) {
+                    let set = set.in_edition(edition);
+                    was_tried(run, all, call, set, claims(call, set));
+                }
             }
         }
         for (l, q, n) in large {
-            let set = set(l, q, n, 1, 1, 0);
-            was_tried(run, all, call, set, large_claims(call, set));
+            for &edition in claimed_editions(call, n) {
+                let set = set(l, q, n, 1, 1, 0).in_edition(edition);
+                was_tried(run, all, call, set, large_claims(call, set));
+            }
         }
         for q in above {
             let [dropped, groups] = all.any[&(call, q)];
@@ -482,8 +496,10 @@ fn round(run: &mut Run) {
         if run.skips() {
             continue;
         }
-        for call in [Call::Keygen, Call::Encrypt] {
-            let mut trial = Trial::new(run, &mut all, call, set);
+        // Which edition a set is in is nothing to encrypt.
+        let calls = EDITIONS.map(|edition| (Call::Keygen, edition));
+        for (call, edition) in calls.into_iter().chain([(Call::Encrypt, 1 + set.n % 2)]) {
+            let mut trial = Trial::new(run, &mut all, call, set.in_edition(edition));
             match set.n {
                 ..=81 => trial.everything(),
                 _ => trial.few(),

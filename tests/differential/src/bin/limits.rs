@@ -2,7 +2,8 @@
 
 use differential::compare::{check, lengths, limits};
 use differential::run::{run_group, Run};
-use differential::sets::{bits_of, random_mlen, sets_with, DEGREES, MOST_Q, RANGES};
+use differential::sets::{bits_of, random_mlen, sets_with, DEGREES, EDITIONS, MOST_Q, RANGES};
+use differential::spoil::WRONG_EDITIONS;
 use reference::set::{bound, set, small_bits};
 use reference::Set;
 
@@ -21,14 +22,24 @@ fn all(run: &mut Run, set: Set) -> u32 {
     number
 }
 
-/// One set of many.
-fn one_of_many(run: &mut Run, set: Set) {
-    if !run.skips() {
-        all(run, set);
+/// An accepted edition three times in four.
+fn edition(run: &mut Run) -> u32 {
+    match run.prng.below(4) {
+        0 => WRONG_EDITIONS[run.prng.below(8) as usize],
+        _ => EDITIONS[run.prng.below(2) as usize],
     }
 }
 
-/// What 01 prints: worked cases 9 to 11, the lines of roomsheet, and headroom at a multiple of B.
+/// One set of many, in any edition.
+fn one_of_many(run: &mut Run, set: Set) {
+    if !run.skips() {
+        let edition = edition(run);
+        all(run, set.in_edition(edition));
+    }
+}
+
+/// What 01 prints: worked cases 9 to 11, the lines of roomsheet, and headroom at a multiple of B; the same in both
+/// editions.
 fn worked(run: &mut Run) {
     for (set, number, at, s) in [
         (set(4, 1459, 2, 1, 1, 4), 0, 1455, 1),
@@ -44,10 +55,12 @@ fn worked(run: &mut Run) {
         (set(4, 467_424_411, 1201, 1, 1, 2402), 4, 0, 0),
         (set(4, 467_424_412, 1201, 1, 1, 2402), 0, 467_424_411, 1),
     ] {
-        let got = limits(run, set);
-        let right = got.0 == number && (number != 0 || (got.1, got.2) == (at, s));
-        run.expect(right, set, "limits gives what 01 prints");
-        all(run, set);
+        for set in EDITIONS.map(|edition| set.in_edition(edition)) {
+            let got = limits(run, set);
+            let right = got.0 == number && (number != 0 || (got.1, got.2) == (at, s));
+            run.expect(right, set, "limits gives what 01 prints");
+            all(run, set);
+        }
     }
     let a = set(4, 1459, 2, 1, 1, 4);
     let (number, got) = lengths(run, a);
@@ -167,7 +180,7 @@ fn random(run: &mut Run) {
 }
 
 fn main() {
-    let numbers: &[u32] = &[0, 1, 2, 3, 4, 5];
+    let numbers: &[u32] = &[0, 1, 2, 3, 4, 5, 18];
     let calls = [
         ("check", numbers),
         ("limits", numbers),

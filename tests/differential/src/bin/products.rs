@@ -6,7 +6,7 @@ use std::collections::BTreeSet;
 use differential::compare::{multiply_add, square_add};
 use differential::inputs;
 use differential::run::{run_group, Run};
-use differential::sets::{least_q, sets_with, DEGREES, MOST_Q, RANGES};
+use differential::sets::{in_any_edition, least_q, sets_with, DEGREES, MOST_Q, RANGES};
 use differential::spoil::{spoiled_number, ways, Way};
 use differential::sums::{powers_of_t, summands, totals, turned_back};
 use reference::prng::Prng;
@@ -282,16 +282,16 @@ fn spoiled(run: &mut Run, set: Set, way: Way, [length, word]: [u32; 2]) -> Vec<u
     element
 }
 
-/// Each refusal, and several at once. Kinds 0 to 4 are the set's refusals, 5 to 7 the lengths, 8 to 10 the words.
+/// Each refusal, and several at once. Kinds 0 to 2 are the lengths, 3 to 5 the words.
 fn refusals(run: &mut Run, set: Set, more: usize) {
-    for way in ways(11, more, &mut run.prng) {
-        let [a, b, c] = [[5, 8], [6, 9], [7, 10]].map(|kinds| spoiled(run, set, way, kinds));
+    for way in ways(6, more, &mut run.prng) {
+        let [a, b, c] = [[0, 3], [1, 4], [2, 5]].map(|kinds| spoiled(run, set, way, kinds));
         let wrong = way.set(set, &mut run.prng);
         let (two, _) = multiply_add(run, wrong, &a, &b, &c);
         let (one, _) = square_add(run, wrong, &a, &c);
         // In one buffer b isn't looked at.
-        let right = two == way.refusal(&[1, 2, 3, 4, 5, 6, 6, 6, 8, 8, 8])
-            && one == way.refusal(&[1, 2, 3, 4, 5, 6, 0, 6, 8, 0, 8]);
+        let right =
+            two == way.refusal(&[6, 6, 6, 8, 8, 8]) && one == way.refusal(&[6, 0, 6, 8, 0, 8]);
         run.expect(right, wrong, "the first refusal that applies");
     }
 }
@@ -305,7 +305,7 @@ fn worked(run: &mut Run) {
 
 /// No q is accepted: refusal 4, whatever the elements are.
 fn too_large(run: &mut Run, l: u32, n: u32, (dx, dr): (u32, u32)) {
-    let set = set(l, MOST_Q, n, dx, dr, 0);
+    let set = in_any_edition(set(l, MOST_Q, n, dx, dr, 0), &mut run.prng);
     let words = vec![u32::MAX; set.places()];
     let (number, _) = multiply_add(run, set, &words, &words, &words);
     run.expect(number == 4, set, "no q is accepted");
@@ -325,7 +325,7 @@ fn fixed_sets(run: &mut Run, tried: &mut All, n: u32) {
         if run.skips() {
             continue;
         }
-        let set = set(2, q, n, 1, 1, n);
+        let set = in_any_edition(set(2, q, n, 1, 1, n), &mut run.prng);
         let (run, tried) = (&mut *run, &mut *tried);
         let mut trial = Trial { run, tried, set };
         trial.random();
@@ -457,6 +457,6 @@ fn round(run: &mut Run) {
 }
 
 fn main() {
-    let numbers: [(&str, &[u32]); 1] = [("multiply_add", &[0, 1, 2, 3, 4, 5, 6, 8])];
+    let numbers: [(&str, &[u32]); 1] = [("multiply_add", &[0, 1, 2, 3, 4, 5, 18, 6, 8])];
     run_group("products", &numbers, round);
 }

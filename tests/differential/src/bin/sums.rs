@@ -8,7 +8,7 @@ use differential::compare::{
 };
 use differential::inputs;
 use differential::run::{run_group, Run};
-use differential::sets::sets_of;
+use differential::sets::{in_any_edition, sets_of};
 use differential::sums::{
     all_but_one, meeting, mixed_summands, packed, polynomial, powers_of_t, rest, summand, summands,
     totals, turned, turned_back, Elements, Parts, MODULI,
@@ -479,6 +479,7 @@ fn round(run: &mut Run) {
         if run.skips() {
             continue;
         }
+        let set = in_any_edition(set, &mut run.prng);
         mixed_additions(run, set);
         for total in totals(set.q) {
             let (run, made) = (&mut *run, &mut made);

@@ -8,15 +8,15 @@ use Rattle.giophantus.proofs.conversion.giophantus_ciphertext_to_octets
 use Rattle.giophantus.proofs.conversion.giophantus_ciphertext_to_octets.Tie as tie
 
 add-monomial-count : tie.Need-add-monomial-count
-add-monomial-count c = let p = c .before in omega (arith, degrees-most _ (p .before .before .new .ensures) (p .p .given .1))
+add-monomial-count c = let p = c .before .before in omega (arith, degrees-most _ (p .before .before .new .ensures) (p .p .given .1))
 
 monomial-count-requires : tie.Need-monomial-count-requires
-monomial-count-requires c κs = let p = c .before in omega (arith, degrees-most _ (p .before .before .new .ensures) (p .p .given .1))
+monomial-count-requires c κs = let p = c .before .before in omega (arith, degrees-most _ (p .before .before .new .ensures) (p .p .given .1))
 
 encode-requires : tie.Need-encode-requires
 encode-requires c κs =
     let count = c .before in
-    let p = count .before .before in
+    let p = count .before .before .before in
     let degrees = degrees-most _ (p .before .before .new .ensures) (p .p .given .1) in
     (checked-fits _ (p .before .before .new .ensures) (p .p .given .1), count-most _ (count .monomial-count .ensures) (omega arith))
 
@@ -24,7 +24,7 @@ returns : tie.Need-returns
 returns c =
     let call = c .before .before in
     let count = call .before .before in
-    let p = count .before .before in
+    let p = count .before .before .before in
     rw (← checked-accepted _ (p .before .before .new .ensures) (p .p .given .1) .1, ← count .monomial-count .ensures) (call .encode .ensures)
 
 returns-2 : tie.Need-returns-2

@@ -5,8 +5,8 @@ use mathlib.Core.Bool.{Bool, true, false, not}
 use borrow.Author.Needs.{needs}
 use borrow.Author.Tests.{not-true, not-false}
 use Rattle.definitions.specs.Refusals.{firstRefusal, answer}
-use Rattle.definitions.specs.Parameters.{Parameters, rangeFits, ringFits, degreeFits, modulusFits, setTests}
-use Rattle.parameters.specs.Answers.{setAnswer}
+use Rattle.definitions.specs.Parameters.{Parameters, rangeFits, ringFits, degreeFits, modulusFits, messageFits, setTests}
+use Rattle.parameters.specs.Answers.{numbersFrom, setAnswer}
 use Rattle.parameters.proofs.Parameters.new.Statement.{statement}
 use Rattle.parameters.proofs.Parameters.new.Tie as tie
 
@@ -20,7 +20,7 @@ failed {answer} e f = sym e ∙ not-true answer f
 -- ---- the places after each test that passed, and what it tells
 
 abbrev set : tie.Start → Parameters
-set s = record { l = s .args .l; q = s .args .q; n = s .args .n; dx = s .args .dx; dr = s .args .dr; mlen = s .args .mlen }
+set s = numbersFrom (s .args .set)
 
 abbrev ranged : tie.Else2 → tie.Else1
 ranged c = c .before .before
@@ -30,6 +30,9 @@ ringed c = c .before .before
 
 abbrev degreed : tie.Else4 → tie.Else3
 degreed c = c .before .before
+
+abbrev moduled : tie.Else5 → tie.Else4
+moduled c = c .before .before
 
 range : (c : tie.Else1) → rangeFits (set (c .before .before)) ≡ true
 range c = passed (c .before .range-fits .ensures) (c .if1 .left)
@@ -42,6 +45,9 @@ degrees c = passed (c .before .degree-fits .ensures) (c .if3 .left)
 
 modulus : (c : tie.Else4) → modulusFits (set (ranged (ringed (degreed c)) .before .before)) ≡ true
 modulus c = passed (c .before .modulus-fits .ensures) (c .if4 .left)
+
+message : (c : tie.Else5) → messageFits (set (ranged (ringed (degreed (moduled c))) .before .before)) ≡ true
+message c = passed (c .before .message-fits .ensures) (c .if5 .left)
 
 -- ---- the needs
 
@@ -77,11 +83,20 @@ returns-6 : tie.Need-returns-6
 unfolding setAnswer answer firstRefusal setTests
 returns-6 c =
     let s = c .before .before in
-    let d = degreed s in
-    rw (range (ranged (ringed d)), ring (ringed d), degrees d, modulus s, passed (c .before .message-fits .ensures) (c .if5 .left))
+    let m = moduled s in
+    let d = degreed m in
+    rw (range (ranged (ringed d)), ring (ringed d), degrees d, modulus m, message s, failed (c .before .edition-fits .ensures) (c .if6 .taken))
+
+returns-7 : tie.Need-returns-7
+unfolding setAnswer answer firstRefusal setTests
+returns-7 c =
+    let s = c .before .before in
+    let m = moduled s in
+    let d = degreed m in
+    rw (range (ranged (ringed d)), ring (ringed d), degrees d, modulus m, message s, passed (c .before .edition-fits .ensures) (c .if6 .left))
 
 pub new-spec : {M : Type 1} → statement M
 new-spec =
     tie.close
     (tie.spec (λ c κs. search needs) returns (λ c κs. search needs) returns-2 (λ c κs. search needs) returns-3 modulus-fits-requires returns-4
-    (λ c κs. search needs) returns-5 returns-6)
+    (λ c κs. search needs) returns-5 (λ c κs. search needs) returns-6 returns-7)

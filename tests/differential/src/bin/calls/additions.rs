@@ -32,20 +32,23 @@ pub fn sums(run: &mut Run, set: Set, ciphertexts: &[Vec<u8>]) {
     }
 }
 
-/// 5 to 7: both summands and the sum; 8 and 9: a coefficient of each summand.
+/// 0 to 2: both summands and the sum; 3 and 4: a coefficient of each summand.
 pub fn refusals(run: &mut Run, set: Set, more: usize) {
     let first = inputs::ciphertext(set, &mut run.prng);
     let second = inputs::ciphertext(set, &mut run.prng);
-    for way in ways(10, more, &mut run.prng) {
+    for way in ways(5, more, &mut run.prng) {
         let prng = &mut run.prng;
         let (mut a, mut b) = (first.clone(), second.clone());
-        way.coefficient(8, set, &mut a, prng);
-        way.coefficient(9, set, &mut b, prng);
-        way.input(5, &mut a, prng);
-        way.input(6, &mut b, prng);
-        let sum = way.length(7, set.ciphertext_octets(), prng);
+        way.coefficient(3, set, &mut a, prng);
+        way.coefficient(4, set, &mut b, prng);
+        way.input(0, &mut a, prng);
+        way.input(1, &mut b, prng);
+        let sum = way.length(2, set.ciphertext_octets(), prng);
         let wrong = way.set(set, prng);
-        add(run, wrong, &a, &b, sum);
-        double(run, wrong, &a, sum);
+        let (two, _) = add(run, wrong, &a, &b, sum);
+        let (one, _) = double(run, wrong, &a, sum);
+        // In one buffer b isn't looked at.
+        let right = two == way.refusal(&[6, 6, 6, 8, 8]) && one == way.refusal(&[6, 0, 6, 8, 0]);
+        run.expect(right, wrong, "the first refusal that applies");
     }
 }

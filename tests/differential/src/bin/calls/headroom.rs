@@ -5,7 +5,7 @@ use differential::compare::{
 };
 use differential::inputs;
 use differential::run::Run;
-use differential::sets::{bits_of, least_q, sets_with, DEGREES, MOST_Q, RANGES};
+use differential::sets::{bits_of, in_any_edition, least_q, sets_with, DEGREES, MOST_Q, RANGES};
 use reference::ledger::Ledger;
 use reference::monomials::count;
 use reference::octets::pack;
@@ -25,11 +25,13 @@ pub fn all(run: &mut Run) {
                     // q = s * B has headroom s - 1, the next has s.
                     for q in [s * at, s * at + 1] {
                         if q > at && !run.skips() {
-                            worst(run, set(q));
+                            let set = in_any_edition(set(q), &mut run.prng);
+                            worst(run, set);
                         }
                     }
                 }
-                doubled(run, set(MOST_Q));
+                let largest = in_any_edition(set(MOST_Q), &mut run.prng);
+                doubled(run, largest);
                 let sets = sets_with(l, n, (dx, dr), &mut run.prng);
                 for set in sets {
                     if !run.skips() {

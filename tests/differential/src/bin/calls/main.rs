@@ -8,7 +8,8 @@ mod worked;
 
 use differential::run::{run_group, Run};
 use differential::sets::{
-    bits_of, dropping_modulus, largest_n, least_q, sets_with, DEGREES, MOST_Q, RANGES,
+    bits_of, dropping_modulus, in_any_edition, largest_n, least_q, sets_with, DEGREES, MOST_Q,
+    RANGES,
 };
 use reference::set::set;
 use reference::Set;
@@ -64,14 +65,16 @@ fn middle_rings(run: &mut Run) {
     }
 }
 
-/// Sets with a full message and q the least, the largest and above a power of two.
+/// Sets with a full message and q the least, the largest and above a power of two, each in one edition or the other.
 fn tight(l: u32, n: u32, (dx, dr): (u32, u32), run: &mut Run) -> Vec<Set> {
     let Some(least) = least_q(l, n, dx + dr) else {
         return Vec::new();
     };
     let dropping = dropping_modulus(least, &mut run.prng);
     let set = |q| set(l, q, n, dx, dr, n * bits_of(l));
-    vec![set(least), set(MOST_Q), set(dropping)]
+    [least, MOST_Q, dropping]
+        .map(|q| in_any_edition(set(q), &mut run.prng))
+        .to_vec()
 }
 
 /// n = 64, and for each l and degree the largest n: the largest accepted bounds. Rings of thousands
@@ -114,16 +117,16 @@ fn large_rings(run: &mut Run) {
         scenario::all(run, table_5);
     }
     let blank = set(2, 100_679_684, 4096, 1, 1, 0);
-    scenario::once(run, blank);
+    scenario::once(run, blank.in_edition(2));
 }
 
 fn main() {
     let numbers: [(&str, &[u32]); 5] = [
-        ("keygen", &[0, 1, 2, 3, 4, 5, 6, 9]),
-        ("is_zero", &[0, 1, 2, 3, 4, 5, 6, 7, 8, 14]),
-        ("encrypt", &[0, 1, 2, 3, 4, 5, 6, 7, 8, 9]),
-        ("add", &[0, 1, 2, 3, 4, 5, 6, 8]),
-        ("decrypt", &[0, 1, 2, 3, 4, 5, 6, 7, 8, 14, 10]),
+        ("keygen", &[0, 1, 2, 3, 4, 5, 18, 6, 9]),
+        ("is_zero", &[0, 1, 2, 3, 4, 5, 18, 6, 7, 8, 14]),
+        ("encrypt", &[0, 1, 2, 3, 4, 5, 18, 6, 7, 8, 9]),
+        ("add", &[0, 1, 2, 3, 4, 5, 18, 6, 8]),
+        ("decrypt", &[0, 1, 2, 3, 4, 5, 18, 6, 7, 8, 14, 10]),
     ];
     run_group("calls", &numbers, |run| {
         worked::all(run);

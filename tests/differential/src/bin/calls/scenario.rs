@@ -46,7 +46,8 @@ pub fn top(run: &mut Run, set: Set) {
     let small = pack(set.b(), &vec![set.l - 1; set.places()], set.small_octets());
     let secret_key = small.repeat(2);
 
-    let drawn = [secret_key.clone(), q((count(set.dx) - 1) * set.places())].concat();
+    let drawn = q(inputs::key_elements(set) * set.places());
+    let drawn = [secret_key.clone(), drawn].concat();
     let keys = keygen_exactly(run, set, &drawn);
     zero_is(run, set, &keys, 1);
 

@@ -3,7 +3,6 @@
 use differential::compare::{keygen, KeygenLengths, Keys};
 use differential::inputs::{self, of_full_degree, top_bits, with_top};
 use differential::run::Run;
-use reference::monomials::count;
 use reference::Set;
 
 use crate::tried::{All, Others, Tried, OTHERS};
@@ -45,7 +44,7 @@ fn without_unused(set: Set, mut element: Vec<u8>) -> Vec<u8> {
 impl<'a> Trial<'a> {
     pub fn new(run: &'a mut Run, all: &'a mut All, set: Set) -> Self {
         let prng = &mut run.prng;
-        let drawn = inputs::below(set.q, (count(set.dx) - 1) * set.places(), prng);
+        let drawn = inputs::below(set.q, inputs::key_elements(set) * set.places(), prng);
         let any = [inputs::small_draw(set, prng), inputs::small_draw(set, prng)];
         let mut trial = Trial {
             run,

@@ -12,7 +12,7 @@ use differential::cases::{
 };
 use differential::compare::{decrypt, is_zero, keygen, DecryptLengths, KeygenLengths};
 use differential::run::{run_group, Run};
-use differential::sets::{bits_of, least_q, DEGREES, MOST_Q, RANGES};
+use differential::sets::{bits_of, least_and_next};
 use reference::set::set;
 use reference::Set;
 
@@ -22,35 +22,21 @@ use crate::tried::{complete, All, Others};
 /// With l 8 the top coefficient of n 3 and n 6 lies in two octets.
 const RINGS: [u32; 7] = [2, 3, 5, 6, 8, 9, 81];
 
-/// Beside the least q of a set, the first of these above it: where there is one, just above a power of two, so that
-/// nearly half of all groups are dropped.
-const MODULI: [u32; 3] = [65_537, 1_073_741_825, MOST_Q];
-
-/// Every l and degree that these n allow, with full messages.
+/// The least q in edition 1, the other in edition 2.
 fn small_sets() -> Vec<Set> {
-    let mut list = Vec::new();
-    for n in RINGS {
-        for l in RANGES {
-            for (dx, dr) in DEGREES {
-                let Some(least) = least_q(l, n, dx + dr) else {
-                    continue;
-                };
-                let next = MODULI.into_iter().find(|&q| q > least);
-                let moduli = [Some(least), next].into_iter().flatten();
-                list.extend(moduli.map(|q| set(l, q, n, dx, dr, n * bits_of(l))));
-            }
-        }
-    }
-    list
+    let pairs = least_and_next(&RINGS).into_iter();
+    let in_both =
+        |(least, next): (Set, Option<Set>)| [Some(least), next.map(|set| set.in_edition(2))];
+    pairs.flat_map(in_both).flatten().collect()
 }
 
 fn large_sets() -> [Set; 3] {
     [
-        (2, 16_777_217, 1201),
-        (4, 1_073_741_825, 1201),
-        (2, 1_073_741_825, 4096),
+        (2, 16_777_217, 1201, 1),
+        (4, 1_073_741_825, 1201, 2),
+        (2, 1_073_741_825, 4096, 2),
     ]
-    .map(|(l, q, n)| set(l, q, n, 1, 1, n * bits_of(l)))
+    .map(|(l, q, n, edition)| set(l, q, n, 1, 1, n * bits_of(l)).in_edition(edition))
 }
 
 /// Case 2's keys with dropped elements before them, zeros, and single elements with l 8.

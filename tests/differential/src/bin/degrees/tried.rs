@@ -2,9 +2,10 @@
 
 use std::collections::{BTreeMap, BTreeSet};
 
+use differential::claimed::least_and_next;
 use differential::inputs::top_bits;
 use differential::run::Run;
-use differential::sets::{least_q, DEGREES, RANGES};
+use differential::sets::RANGES;
 use reference::monomials::count;
 use reference::set::set;
 use reference::Set;
@@ -75,8 +76,8 @@ pub struct Given {
     pub with: Vec<u32>,
 }
 
-/// A set without its message length: l, q, n, dX and dr.
-type Numbers = [u32; 5];
+/// A set without its message length: l, q, n, dX, dr and the edition.
+type Numbers = [u32; 6];
 
 #[derive(Default)]
 pub struct All {
@@ -86,7 +87,7 @@ pub struct All {
 }
 
 fn numbers_of(set: Set) -> Numbers {
-    [set.l, set.q, set.n, set.dx, set.dr]
+    [set.l, set.q, set.n, set.dx, set.dr, set.edition]
 }
 
 impl All {
@@ -175,22 +176,6 @@ fn small_claims(set: Set) -> Vec<Tried> {
     list
 }
 
-/// The sets of small n, their message lengths apart.
-fn small_sets() -> Vec<Set> {
-    let mut list = Vec::new();
-    for n in [2, 3, 5, 6, 8, 9, 81] {
-        for (l, (dx, dr)) in RANGES.into_iter().flat_map(|l| DEGREES.map(|d| (l, d))) {
-            let Some(least) = least_q(l, n, dx + dr) else {
-                continue;
-            };
-            let next = [65_537, 1_073_741_825, 2_147_483_647].into_iter();
-            let next = next.filter(|&q| q > least).take(1);
-            list.extend(next.chain([least]).map(|q| set(l, q, n, dx, dr, 0)));
-        }
-    }
-    list
-}
-
 /// Everything was tried. Not by the lists of the round, so that what is left out there is missed here.
 pub fn complete(run: &Run, all: &All) {
     let was_tried = |set: Set, list: Vec<Tried>| {
@@ -200,15 +185,18 @@ pub fn complete(run: &Run, all: &All) {
             run.expect(seen, set, &words);
         }
     };
-    for set in small_sets() {
-        was_tried(set, small_claims(set));
+    for (least, next) in least_and_next(&[2, 3, 5, 6, 8, 9, 81]) {
+        was_tried(least, small_claims(least));
+        if let Some(next) = next.map(|set| set.in_edition(2)) {
+            was_tried(next, small_claims(next));
+        }
     }
-    for (l, q, n) in [
-        (2, 16_777_217, 1201),
-        (4, 1_073_741_825, 1201),
-        (2, 1_073_741_825, 4096),
+    for (l, q, n, edition) in [
+        (2, 16_777_217, 1201, 1),
+        (4, 1_073_741_825, 1201, 2),
+        (2, 1_073_741_825, 4096, 2),
     ] {
-        let set = set(l, q, n, 1, 1, 0);
+        let set = set(l, q, n, 1, 1, 0).in_edition(edition);
         was_tried(set, large_claims(set));
     }
     for l in RANGES {

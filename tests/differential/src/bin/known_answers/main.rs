@@ -3,6 +3,8 @@
 //!
 //! Usage: known_answers DIRECTORY
 
+mod editions;
+
 use std::fmt::Write;
 use std::path::Path;
 use std::{env, fs, mem, process};
@@ -85,6 +87,8 @@ struct Answers {
     count: usize,
     /// The sets with which a secret key had a zero top coefficient.
     zero_tops: Vec<Set>,
+    /// Whether every record says its edition. The other files are from before document 02's Q-7, in edition 1.
+    says_edition: bool,
 }
 
 type Field = (&'static str, String);
@@ -97,6 +101,7 @@ impl Answers {
             text: format!("# Giophantus, known answers: {name}\n"),
             count: 0,
             zero_tops: Vec::new(),
+            says_edition: false,
         }
     }
 
@@ -129,7 +134,9 @@ impl Answers {
         };
         line("\ncount", &self.count.to_string());
         line("call", call);
-        for (name, value) in numbers {
+        let edition = [("edition", set.edition)];
+        let edition = edition.into_iter().filter(|_| self.says_edition);
+        for (name, value) in numbers.into_iter().chain(edition) {
             line(name, &value.to_string());
         }
         for (name, value) in given {
@@ -1387,6 +1394,7 @@ fn main() {
     products(directory);
     draws(directory);
     degrees(directory);
+    editions::editions(directory);
     for (name, set) in LARGE {
         large(directory, name, set);
     }

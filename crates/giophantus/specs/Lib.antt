@@ -1,2 +1,0 @@
--- What the exported functions' contracts cite beside the definitions.
-pub mod Interface
