@@ -1,8 +1,12 @@
-//! Sets that a round has to try: each l and degree with two q, whatever q the lists of `sets` choose.
+//! What a round has to try: sets, each l and degree with two q, whatever q the lists of `sets` choose, and that all was tried with a set.
+
+use std::collections::BTreeSet;
+use std::fmt::Debug;
 
 use reference::set::set;
 use reference::Set;
 
+use crate::run::Run;
 use crate::sets::{least_q, DEGREES, RANGES};
 
 /// For each l and degree that these n allow: the least q and, where there is one, the first of these q above it;
@@ -19,4 +23,18 @@ pub fn least_and_next(rings: &[u32]) -> Vec<(Set, Option<Set>)> {
         }
     }
     list
+}
+
+/// Each of a list stands among what was tried, beside the numbers of the set.
+pub fn all_tried<N: Copy + Ord, T: Debug + Ord>(
+    run: &Run,
+    tried: &BTreeSet<(N, T)>,
+    set: Set,
+    numbers: N,
+    list: Vec<T>,
+) {
+    for what in list {
+        let words = format!("{what:?} was tried");
+        run.expect(tried.contains(&(numbers, what)), set, &words);
+    }
 }

@@ -2,7 +2,7 @@
 
 use std::collections::{BTreeMap, BTreeSet};
 
-use differential::claimed::least_and_next;
+use differential::claimed::{all_tried, least_and_next};
 use differential::inputs::top_bits;
 use differential::run::Run;
 use differential::sets::RANGES;
@@ -178,13 +178,8 @@ fn small_claims(set: Set) -> Vec<Tried> {
 
 /// Everything was tried. Not by the lists of the round, so that what is left out there is missed here.
 pub fn complete(run: &Run, all: &All) {
-    let was_tried = |set: Set, list: Vec<Tried>| {
-        for what in list {
-            let words = format!("{what:?} was tried");
-            let seen = all.tried.contains(&(numbers_of(set), what));
-            run.expect(seen, set, &words);
-        }
-    };
+    let was_tried =
+        |set: Set, list: Vec<Tried>| all_tried(run, &all.tried, set, numbers_of(set), list);
     for (least, next) in least_and_next(&[2, 3, 5, 6, 8, 9, 81]) {
         was_tried(least, small_claims(least));
         if let Some(next) = next.map(|set| set.in_edition(2)) {
