@@ -2,6 +2,8 @@
 // It refuses a length that is not the exact one (6) and a coefficient that is not below q in either summand (8); a refusal leaves the output
 // as it was, so both summands are judged before the first octet is written. The two summands may be one buffer. The contract cites the
 // definitions' Adds. The sum of two coefficients is ring::sum alone.
+#![tactic(auto)]
+
 ghost use Rattle.std.specs.Prelude.{◌≡◌, ◌*◌, length};
 ghost use Rattle.definitions.specs.Octets.{encoded};
 ghost use Rattle.definitions.specs.Parameters.{ciphertext_length};

@@ -5,6 +5,8 @@
 // Where the key and the mask have one degree and the list for it is not too long, X × r is taken by shared products. Nothing is refused:
 // the caller has judged the key, drawn the mask and counted the octets of the noise. The contract cites the definitions' encrypted_with,
 // through encrypted_from.
+#![tactic(auto)]
+
 ghost use Rattle.std.specs.Prelude.{◌≡◌, ◌+◌, ◌*◌, ◌≤◌, ◌<◌, length};
 ghost use Rattle.definitions.specs.Sequences.{tabulate};
 ghost use Rattle.definitions.specs.Parameters.{degree, monomial_count, small_length, ciphertext_length, work_length, qlen};
@@ -25,7 +27,7 @@ use parameters::Parameters;
 // The sum takes ℓ times the m-th noise element.
 fn add_noise(p: Parameters, noise: &[u8], m: usize, work: &mut [u32])
     requires accepted_set { AcceptedSet (set_from p) × (length work.old ≡ work_length (set_from p)) × InRing p.q p.n (sum_in (set_from p) work.old) }
-    requires p_in_bounds { m * small_length (set_from p) + small_length (set_from p) ≤ length noise.now }
+    requires noise_room { m * small_length (set_from p) + small_length (set_from p) ≤ length noise.now }
     ensures { SumGains (set_from p) (λ mask k. p.l * noise_of (set_from p) (before noise) m k) (before work) (after work) }
 {
     let n = p.n as usize;
@@ -38,7 +40,7 @@ fn add_noise(p: Parameters, noise: &[u8], m: usize, work: &mut [u32])
 // The sum takes the message, where m is the constant's place.
 fn add_message(p: Parameters, message: &[u8], m: usize, work: &mut [u32])
     requires accepted_set { AcceptedSet (set_from p) × (length work.old ≡ work_length (set_from p)) × InRing p.q p.n (sum_in (set_from p) work.old) }
-    requires m_bound { m < monomial_count (degree (set_from p)) }
+    requires element { m < monomial_count (degree (set_from p)) }
     ensures { SumGains (set_from p) (λ mask. constant_term (degree (set_from p)) (small_of (set_from p) (before message)) m) (before work) (after work) }
 {
     if m + 1 != monomials::monomial_count(p.dx + p.dr) {
@@ -86,7 +88,7 @@ fn sum_element(
 // The sum, as the m-th element's octets.
 fn encode_element(p: Parameters, m: usize, work: &[u32], ciphertext: &mut [u8])
     requires accepted_set { AcceptedSet (set_from p) × (length work.now ≡ work_length (set_from p)) }
-    requires m_bound { (m < monomial_count (degree (set_from p))) × (length ciphertext.old ≡ ciphertext_length (set_from p)) }
+    requires element { (m < monomial_count (degree (set_from p))) × (length ciphertext.old ≡ ciphertext_length (set_from p)) }
     ensures { after ciphertext ≡ written (m * p.n * qlen p.q) (encoded (qlen p.q) (tabulate p.n (sum_in (set_from p) (before work)))) (before ciphertext) }
 {
     let n = p.n as usize;
@@ -132,7 +134,7 @@ fn write_shared(
     work: &mut [u32],
 )
     requires encrypting { Encrypting (set_from p) public.now noise.now work.old × (length ciphertext.old ≡ ciphertext_length (set_from p)) }
-    requires dx_value { (p.dx ≡ p.dr) × (2 * (monomial_count p.dx * p.n) ≤ length list.old) }
+    requires one_degree { (p.dx ≡ p.dr) × (2 * (monomial_count p.dx * p.n) ≤ length list.old) }
     ensures { after ciphertext ≡ encrypted_from (set_from p) (before public) (before message) (before noise) (before work) }
 {
     shared_products::prepare(p, public, work, list);
@@ -149,7 +151,7 @@ fn write_short(
     work: &mut [u32],
 )
     requires encrypting { Encrypting (set_from p) public.now noise.now work.old × (length ciphertext.old ≡ ciphertext_length (set_from p)) }
-    requires dx_value { (p.dx ≡ p.dr) × (monomial_count p.dx * p.n ≤ 1024) }
+    requires one_degree { (p.dx ≡ p.dr) × (monomial_count p.dx * p.n ≤ 1024) }
     ensures { after ciphertext ≡ encrypted_from (set_from p) (before public) (before message) (before noise) (before work) }
 {
     let mut list = [0u32; 2048];
@@ -166,7 +168,7 @@ fn write_long(
     work: &mut [u32],
 )
     requires encrypting { Encrypting (set_from p) public.now noise.now work.old × (length ciphertext.old ≡ ciphertext_length (set_from p)) }
-    requires dx_value { (p.dx ≡ p.dr) × (monomial_count p.dx * p.n ≤ 12288) }
+    requires one_degree { (p.dx ≡ p.dr) × (monomial_count p.dx * p.n ≤ 12288) }
     ensures { after ciphertext ≡ encrypted_from (set_from p) (before public) (before message) (before noise) (before work) }
 {
     let mut list = [0u32; 24576];

@@ -3,6 +3,8 @@
 // element is 1, a secret key 2, each with its own unused bits). Each call compares both lengths (6), then judges the unused bits (7) or the
 // coefficients (8), and writes only where all of them pass: a refusal leaves the output as it was. The contracts cite the definitions'
 // Decodes, Encodes, Unpacks and Packs; those of the steps also specs/Packed.antt.
+#![tactic(auto)]
+
 ghost use Rattle.std.specs.Prelude.{◌≡◌, true, ◌&&◌, ◌*◌, ◌^◌, ◌≤◌, eqb, length};
 ghost use Rattle.definitions.specs.Parameters.{small_bits, small_length, elements_length};
 ghost use Rattle.definitions.specs.Octets.{coefficients_fit};

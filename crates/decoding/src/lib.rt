@@ -2,6 +2,8 @@
 // number_of and decoded, and specs/Elements.antt. The loop is written once, with qlen as a variable; `decode` calls it with a constant, so that the compiler makes a
 // loop for each qlen. Four octets are read at once where there is room for them, and the last few coefficients one by one. Nothing is
 // refused: callers have compared the lengths and judged the coefficients.
+#![tactic(auto)]
+
 ghost use Rattle.std.specs.Prelude.{◌≡◌, ℕ, ◌+◌, ◌*◌, ◌≤◌, ◌<◌, length, take, drop};
 ghost use Rattle.definitions.specs.Sequences.{tabulate};
 ghost use Rattle.definitions.specs.Octets.{number_of, decoded};
@@ -63,8 +65,8 @@ pub fn wide_number(octets: &[u8], at: usize, len: usize) -> u32
 
 // The coefficients from a place on, where those before it are decoded.
 fn decode_rest(octets: &[u8], qlen: usize, from: usize, words: &mut [u32])
-    requires le_qlen { (1 ≤ qlen) × (qlen ≤ 4) × (length octets.now ≡ length words.old * qlen) }
-    requires from_in_bounds { (from ≤ length words.old) × (take from words.old ≡ decoded qlen from octets.now) }
+    requires sizes { (1 ≤ qlen) × (qlen ≤ 4) × (length octets.now ≡ length words.old * qlen) }
+    requires begun { (from ≤ length words.old) × (take from words.old ≡ decoded qlen from octets.now) }
     ensures { words.new ≡ decoded qlen (length words.old) octets.now }
 {
     let mut m = from;

@@ -3,6 +3,8 @@
 // q (8), a secret element with a zero top coefficient (14) and a number past the message that is not 0 (10), in this order; a refusal leaves
 // the message as it was. The set is accepted. The work words are zero after every ending past the length test. The contract is the
 // definitions' Decrypts.
+#![tactic(auto)]
+
 ghost use Rattle.std.specs.Prelude.{◌≡◌, ◌+◌, ◌*◌, ◌^◌, ◌%◌, ◌≤◌, ◌<◌, length};
 ghost use Rattle.definitions.specs.Sequences.{tabulate};
 ghost use Rattle.definitions.specs.Parameters.{small_bits, message_length, work_length};

@@ -1,5 +1,7 @@
 // Draws from random octets (01, "Draws from lent random octets", and 02, Q-1 and Q-3): numbers below q, elements of a secret, and noise.
 // A run of draws is refused where the octets end before its last draw is complete. The contracts cite definitions/specs/Draws.antt.
+#![tactic(auto)]
+
 ghost use Rattle.std.specs.Prelude.{◌≡◌, ◌∷◌, [], ◌+◌, ◌-◌, ◌≤◌, ◌<◌, ◌^◌, length, take, drop};
 ghost use Rattle.definitions.specs.Parameters.{bit_length, small_length};
 ghost use Rattle.parameters.specs.Answers.{set_from};

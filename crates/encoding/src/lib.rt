@@ -2,6 +2,8 @@
 // octets_of and encoded. The loop is written once, with qlen as a variable; `encode` calls it with a constant, so that the compiler makes a
 // loop for each qlen. Two coefficients are written as eight octets where there is room for them, and the last few one by one. Nothing is
 // refused: callers have compared the lengths and judged the coefficients.
+#![tactic(auto)]
+
 ghost use Rattle.std.specs.Prelude.{◌≡◌, ◌++◌, ℕ, ◌+◌, ◌*◌, ◌/◌, ◌%◌, ◌^◌, ◌≤◌, ◌<◌, length, take, drop, get_or};
 ghost use Rattle.definitions.specs.Octets.{octets_of, encoded};
 
@@ -48,8 +50,8 @@ fn pair(words: &[u32], m: usize, qlen: usize) -> u64
 
 // The octets of the words from a place on, where those of the words before it are encoded.
 fn encode_rest(words: &[u32], qlen: usize, from: usize, octets: &mut [u8])
-    requires le_qlen { (1 ≤ qlen) × (qlen ≤ 4) × (length octets.old ≡ length words.now * qlen) }
-    requires from_in_bounds { (from ≤ length words.now) × (take (from * qlen) octets.old ≡ encoded qlen (take from words.now)) }
+    requires sizes { (1 ≤ qlen) × (qlen ≤ 4) × (length octets.old ≡ length words.now * qlen) }
+    requires begun { (from ≤ length words.now) × (take (from * qlen) octets.old ≡ encoded qlen (take from words.now)) }
     ensures { octets.new ≡ encoded qlen words.now }
 {
     let mut m = from;

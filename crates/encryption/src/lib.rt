@@ -5,6 +5,8 @@
 // as they were and the work words zero. The mask r is drawn first, into the first parts of the work words, and the octets left for the
 // noise e are counted, so the ciphertext is written only where they are enough. With it stand the octets used and the groups dropped (02,
 // Q-1). The contract is the definitions' Encrypts.
+#![tactic(auto)]
+
 ghost use Rattle.std.specs.Prelude.{◌≡◌, length, take};
 ghost use Rattle.definitions.specs.Parameters.{work_length};
 ghost use Rattle.definitions.specs.Calls.{mask_coefficients, mask_draws};

@@ -2,6 +2,8 @@
 // number, 0 at success. Nothing here asks anything of its callers: unfit input is refused by document 01's table, and a refusal leaves every
 // output as it was. Each export makes the set by its constructor and goes on with an accepted one; its contract is the definitions' promise of the
 // call (definitions/specs/Promises.antt) at the set that the numbers name, and set_tests for the check.
+#![tactic(auto)]
+
 pub mod conversion;
 
 ghost use Rattle.std.specs.Prelude.{◌≡◌};

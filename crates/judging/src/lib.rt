@@ -3,6 +3,8 @@
 // several coefficients at a time, returns at the first of these where one is too large, and reads what is left one by one; small words it
 // reads all at once. The contracts cite specs/Reading.antt and the definitions' coefficient_at and decoded. The loops over octets are
 // written once, with qlen as a variable, and called with a constant, so that the compiler makes a loop for each qlen.
+#![tactic(auto)]
+
 ghost use Rattle.std.specs.Prelude.{◌≡◌, true, ◌+◌, ◌*◌, ◌/◌, ◌^◌, ◌≤◌, length, take, drop};
 ghost use Rattle.definitions.specs.Sequences.{tabulate};
 ghost use Rattle.definitions.specs.Octets.{coefficient_at, decoded, coefficients_fit};
@@ -113,8 +115,8 @@ pub fn judge(octets: &[u8], qlen: usize, q: u32) -> u32
 // The coefficients of the octets, into words, up to one that is too large.
 fn read_by(octets: &[u8], qlen: usize, q: u32, words: &mut [u32]) -> u32
     requires { (1 ≤ qlen) × (qlen ≤ 4) × (length words.old * qlen ≤ length octets.now) }
-    ensures value { result ≡ fit_number q (decoded qlen (length words.old) octets.now) }
-    ensures words_after { result ≡ 0 → words.new ≡ decoded qlen (length words.old) octets.now }
+    ensures judged { result ≡ fit_number q (decoded qlen (length words.old) octets.now) }
+    ensures read { result ≡ 0 → words.new ≡ decoded qlen (length words.old) octets.now }
 {
     let mut m = 0;
     while m < words.len() {
@@ -130,8 +132,8 @@ fn read_by(octets: &[u8], qlen: usize, q: u32, words: &mut [u32]) -> u32
 // The coefficients of the octets, as words, and 0; or 8 where one of them is not below q.
 pub fn read(octets: &[u8], qlen: usize, q: u32, words: &mut [u32]) -> u32
     requires { (1 ≤ qlen) × (qlen ≤ 4) × (length words.old * qlen ≤ length octets.now) }
-    ensures value { result ≡ fit_number q (decoded qlen (length words.old) octets.now) }
-    ensures words_after { result ≡ 0 → words.new ≡ decoded qlen (length words.old) octets.now }
+    ensures judged { result ≡ fit_number q (decoded qlen (length words.old) octets.now) }
+    ensures read { result ≡ 0 → words.new ≡ decoded qlen (length words.old) octets.now }
 {
     if qlen == 1 {
         return read_by(octets, 1, q, words);

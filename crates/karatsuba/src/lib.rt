@@ -4,6 +4,8 @@
 // All stands in one slice of words: a and b, behind them the product, and behind it the third of the three and the words of the level
 // below. The sums of the halves stand where the outer two products come once they are used. Nothing is refused: callers lend 2 m words
 // for the product and 2 m more that are free. Contracts cite ring's linear by specs/Products.antt.
+#![tactic(auto)]
+
 ghost use Rattle.std.specs.Prelude.{◌≡◌, ◌+◌, ◌<◌, ◌≤◌, length};
 ghost use Rattle.definitions.specs.Ring.{InRing};
 ghost use Rattle.ring.specs.Work.{part};

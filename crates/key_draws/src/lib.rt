@@ -4,6 +4,8 @@
 // The set is accepted and the work words have their exact length. u_x and u_y stand in the first two parts, the terms behind them, and what is drawn
 // for the constant behind these: with dX 2 the work words are then full. Where the random octets end first that is said, and the words may hold
 // anything. What is said is the definitions' answer after the length test.
+#![tactic(auto)]
+
 ghost use Rattle.std.specs.Prelude.{◌≡◌, ◌∷◌, [], ◌+◌, ◌*◌, ◌≤◌, length, take, drop};
 ghost use Rattle.std.proofs.Math.Seq.{slice};
 ghost use Rattle.definitions.specs.Draws.{secret_draws};
@@ -27,8 +29,8 @@ pub enum KeyRun {
 // An element of the secret from the random octets at a place on, into the work words at a place on.
 fn draw_half(p: Parameters, random: &[u8], start: usize, work: &mut [u32], at: usize) -> Run
     requires { AcceptedSet (set_from p) × (start ≤ length random.now) × (at + p.n ≤ length work.old) }
-    ensures work_value { said result (slice at (at + p.n) (after work) ∷ []) ≡ drawn_answer (secret_draws (set_from p) 1 (drop start (before random))) }
-    ensures work_value_2 { take at (after work) ≡ take at (before work) }
+    ensures drawn { said result (slice at (at + p.n) (after work) ∷ []) ≡ drawn_answer (secret_draws (set_from p) 1 (drop start (before random))) }
+    ensures work_kept { take at (after work) ≡ take at (before work) }
 {
     let stop = at + p.n as usize;
     draws::draw_secret(random, start, p, &mut work[at..stop])
@@ -75,8 +77,8 @@ fn drawn_end(p: Parameters) -> usize
 // the work words.
 fn draw_terms(p: Parameters, random: &[u8], start: usize, work: &mut [u32]) -> Run
     requires { AcceptedSet (set_from p) × (start ≡ halves_used (set_from p) random.now) × (length work.old ≡ 8 * p.n) }
-    ensures work_value { said result (words_drawn (set_from p) (after work)) ≡ drawn_answer (key_draws (set_from p) (before random)) }
-    ensures work_value_2 { take (p.n + p.n) (after work) ≡ take (p.n + p.n) (before work) }
+    ensures drawn { said result (words_drawn (set_from p) (after work)) ≡ drawn_answer (key_draws (set_from p) (before random)) }
+    ensures work_kept { take (p.n + p.n) (after work) ≡ take (p.n + p.n) (before work) }
 {
     let n = p.n as usize;
     let at = n + n;
@@ -87,7 +89,7 @@ fn draw_terms(p: Parameters, random: &[u8], start: usize, work: &mut [u32]) -> R
 // All that is drawn for keys, into the work words.
 pub fn draw_keys(p: Parameters, random: &[u8], work: &mut [u32]) -> KeyRun
     requires { AcceptedSet (set_from p) × (length work.old ≡ 8 * p.n) }
-    ensures work_value { keys_said (set_from p) result (after work) ≡ keys_drawn (set_from p) (before random) }
+    ensures drawn { keys_said (set_from p) result (after work) ≡ keys_drawn (set_from p) (before random) }
     ensures IsReady { IsReady (set_from p) result (after work) }
 {
     let Run::Complete(elements, dropped_elements) = draw_halves(p, random, work) else {

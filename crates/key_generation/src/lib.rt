@@ -7,6 +7,8 @@
 // words, u_x and u_y in the first two parts and the terms behind them, before an output is written; 0 for the constant goes over what was
 // thrown away. With the keys it says the octets used, the groups dropped (02, Q-1) and the elements dropped (02, Q-3). The contract is the
 // definitions' Makes.
+#![tactic(auto)]
+
 ghost use Rattle.std.specs.Prelude.{◌≡◌, true, ◌+◌, ◌*◌, ◌≤◌, ◌<◌, length};
 ghost use Rattle.std.proofs.Math.Seq.{slice};
 ghost use Rattle.definitions.specs.Parameters.{small_bits, monomial_count, small_length, public_length};
@@ -48,7 +50,7 @@ fn write_secret(p: Parameters, secret: &mut [u8], work: &[u32])
 // The octets of the constant that makes the secret in the first two parts of the work words a zero of a key whose constant is 0.
 fn write_constant(public: &mut [u8], d: usize, n: usize, qlen: usize, q: u32, work: &mut [u32])
     requires sizes { Sizes n qlen work.old × (d ≤ 8) × (length public.old ≡ monomial_count d * n * qlen) × (16 ≤ q) × (q < 2147483648) }
-    requires public_value { (coefficients_fit q (decoded qlen (monomial_count d * n) public.old) ≡ true) × InRing 16 n (part work.old 0) × InRing 16 n (part work.old n) }
+    requires fit { (coefficients_fit q (decoded qlen (monomial_count d * n) public.old) ≡ true) × InRing 16 n (part work.old 0) × InRing 16 n (part work.old n) }
     ensures { after public ≡ with_constant d n qlen q (before public) (before work) }
 {
     values::evaluate(public, d, n, qlen, q, work);

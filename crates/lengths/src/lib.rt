@@ -2,6 +2,8 @@
 // Nothing is refused: a caller has the set from its constructor. With both degrees at most 2 no length wraps, whatever the other four numbers
 // are. The contracts cite the definitions' bit_length, qlen and lengths; those of the length tests (refusal 6) keys_exact and
 // its kin.
+#![tactic(auto)]
+
 ghost use Rattle.std.specs.Prelude.{◌≡◌, ◌≤◌};
 ghost use Rattle.definitions.specs.Parameters.{bit_length, qlen, small_length, secret_length, elements_length, public_length, ciphertext_length, message_length, work_length};
 ghost use Rattle.definitions.specs.Calls.{keys_exact, encrypt_exact, add_exact, decrypt_exact};

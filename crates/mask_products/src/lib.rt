@@ -3,6 +3,8 @@
 // The key's octets are lent. The work words are eight parts of n words: the mask's elements in the first six, a key element in part 6
 // while it is multiplied, and the sum in part 7. Each pair of monomials whose product is the m-th is multiplied and added. Nothing is
 // refused: the caller has judged the octets and drawn the mask. The contracts cite the definitions' product_of, through specs/Products.antt.
+#![tactic(auto)]
+
 ghost use Rattle.std.specs.Prelude.{◌≡◌, ◌*◌, ◌<◌, length};
 ghost use Rattle.definitions.specs.Sequences.{tabulate};
 ghost use Rattle.definitions.specs.Parameters.{degree, monomial_count, work_length};

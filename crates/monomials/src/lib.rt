@@ -2,6 +2,8 @@
 // The list of degree 4 is a table of exponent pairs, and the list of a lower degree is its tail. How many a list has is told by
 // `monomials::monomial_count`. Contracts cite the definitions' `monomial_count`, and `monomial_at` through specs/Pairs.antt. Nothing is
 // refused: callers keep the degree to 4 and the place to the list.
+#![tactic(auto)]
+
 ghost use Rattle.std.specs.Prelude.{◌≡◌, ◌+◌, ◌≤◌, ◌<◌, cond};
 ghost use Rattle.definitions.specs.Parameters.{monomial_count};
 ghost use Rattle.definitions.specs.Monomials.{monomial_at, same_monomial};

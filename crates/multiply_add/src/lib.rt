@@ -2,6 +2,8 @@
 // refuses a length that is not n (6) and a word of the three that is not below q (8); a refusal leaves c as it was. a and b are only read,
 // and may be one buffer. The operation is products::multiply_add, whose three elements stand in one list of words: the three are copied
 // side by side into one, and the result is copied back. The contract cites the definitions' MultipliesAndAdds.
+#![tactic(auto)]
+
 ghost use Rattle.std.specs.Prelude.{◌≡◌, ◌*◌, ◌≤◌, length};
 ghost use Rattle.definitions.specs.MultiplyAdd.{words_fit, multiply_add_words};
 ghost use Rattle.definitions.specs.MultiplyAddHolds.{RingElements};

@@ -4,6 +4,8 @@
 // and written as zero. The contracts cite the definitions' packed and padding_clear; those of the steps also specs/Fields.antt and
 // specs/Lanes.antt. A group is added up in four lanes, of every fourth coefficient each, since the compiler then adds whole rows of four at
 // once. The loops are written once, with b as a variable, and called with a constant, so that the compiler makes a loop for each b.
+#![tactic(auto)]
+
 ghost use Rattle.std.specs.Prelude.{◌≡◌, true, ◌++◌, ℕ, ◌+◌, ◌-◌, ◌*◌, ◌/◌, ◌^◌, ◌≤◌, ◌<◌, min, length, take, drop, replicate};
 ghost use Rattle.definitions.specs.Sequences.{tabulate};
 ghost use Rattle.definitions.specs.Octets.{packed, encoded, coefficients_fit};
@@ -114,8 +116,8 @@ fn collect_groups(
 
 // The octets of each of some groups, from its four lanes.
 fn join_groups(lanes: &[u32], b: usize, many: usize, start: usize, some: usize, octets: &mut [u8])
-    requires le_b { (1 ≤ b) × (1 ≤ many) × (many * b ≤ 4) × ((start + some) * (many * b) ≤ length octets.old) × (some * 4 ≤ length lanes.now) }
-    requires by_index { (g : ℕ) → g < some → lane_number b lanes.now g < 4294967296 }
+    requires sizes { (1 ≤ b) × (1 ≤ many) × (many * b ≤ 4) × ((start + some) * (many * b) ≤ length octets.old) × (some * 4 ≤ length lanes.now) }
+    requires lanes_fit { (g : ℕ) → g < some → lane_number b lanes.now g < 4294967296 }
     ensures { take ((start + some) * (many * b)) octets.new ≡ take (start * (many * b)) octets.old ++ encoded (many * b) (tabulate some (lane_number b lanes.now)) }
 {
     let mut g = 0;

@@ -2,6 +2,8 @@
 // `SetNumbers` are the seven numbers as a caller gives them. `Parameters::new` takes them and refuses a set that fails a test with 1 to 5 or 18, the
 // first that applies; nothing wraps, whatever the numbers are. It is the only way to a set that is worked with, `Parameters`: whatever takes one
 // requires AcceptedSet of it. The contracts cite the definitions' set_tests, limits_of and small_bits, through specs/Answers.antt.
+#![tactic(auto)]
+
 pub mod refusals;
 mod tests;
 

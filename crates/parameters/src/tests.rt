@@ -35,9 +35,9 @@ const CAP: u64 = 2147483648;
 // B, or 2^31 where B is more. The terms are added one by one, and the sum stops once it reaches 2^31, so every step fits 64 bits:
 // a term is at most 122,880 times the term before it, which is part of the sum.
 pub fn capped_bound(p: Parameters) -> u32
-    requires p_value { range_fits (set_from p) ≡ true }
-    requires p_value_2 { ring_fits (set_from p) ≡ true }
-    requires p_value_3 { degree_fits (set_from p) ≡ true }
+    requires range { range_fits (set_from p) ≡ true }
+    requires ring { ring_fits (set_from p) ≡ true }
+    requires degrees { degree_fits (set_from p) ≡ true }
     ensures { result ≡ min (bound (set_from p)) 2147483648 }
 {
     let l = p.l as u64;
@@ -59,9 +59,9 @@ pub fn capped_bound(p: Parameters) -> u32
 
 // The bound is compared up to 2^31, which no q reaches.
 pub fn modulus_fits(p: Parameters) -> bool
-    requires p_value { range_fits (set_from p) ≡ true }
-    requires p_value_2 { ring_fits (set_from p) ≡ true }
-    requires p_value_3 { degree_fits (set_from p) ≡ true }
+    requires range { range_fits (set_from p) ≡ true }
+    requires ring { ring_fits (set_from p) ≡ true }
+    requires degrees { degree_fits (set_from p) ≡ true }
     ensures { result ≡ modulus_fits (set_from p) }
 {
     (p.q <= Parameters::Q_MOST) & (capped_bound(p) < p.q)

@@ -3,6 +3,8 @@
 // sums of two coefficients; a short one is summed row by row from where its factors stand, and reduced once before c is added. Nothing is
 // refused: callers keep parts within the words, c apart from a and b, and coefficients below q. The contract of multiply_add cites ring's
 // product_added for all words, and MultipliedInPlace for the three; the steps' contracts cite the rest of specs/Products.antt.
+#![tactic(auto)]
+
 ghost use Rattle.std.specs.Prelude.{◌≡◌, ℕ, ◌+◌, ◌*◌, ◌%◌, ◌<◌, ◌≤◌, length, get_or};
 ghost use Rattle.definitions.specs.Sequences.{tabulate};
 ghost use Rattle.definitions.specs.Ring.{InRing, element_of};
@@ -71,7 +73,7 @@ fn fold(work: &mut [u32], c: usize, n: usize, q: u32, words: &[u32], at: usize)
 // The same of sums that are not reduced yet: the two of a place are reduced together, and then c is added.
 fn fold_sums(work: &mut [u32], c: usize, n: usize, modulus: Modulus, low: &[u64])
     requires n_in_bounds { (c + n ≤ length work.old) × (n + n ≤ length low.now) × Reciprocal modulus × InRing modulus.q n (part work.old c) }
-    requires by_index { (k : ℕ) → k < n → get_or low.now k 0 + get_or low.now (n + k) 0 < 18446744073709551616 }
+    requires sums_fit { (k : ℕ) → k < n → get_or low.now k 0 + get_or low.now (n + k) 0 < 18446744073709551616 }
     ensures { work.new ≡ written c (tabulate n (λ k. (get_or low.now k 0 + get_or low.now (n + k) 0 + part work.old c k) % modulus.q)) work.old }
 {
     let mut k = 0;
@@ -133,7 +135,7 @@ fn multiply_long(work: &mut [u32], p: Product, modulus: Modulus)
 pub fn multiply_add(work: &mut [u32], a: usize, b: usize, c: usize, n: usize, q: u32, top: u32)
     requires n_in_bounds { (a + n ≤ length work.old) × (b + n ≤ length work.old) × (c + n ≤ length work.old) × (n ≤ 4096) × (0 < top) × (top ≤ q) × (q < 2147483648) }
     requires apart { Apart c a n × Apart c b n × InRing q n (part work.old a) × InRing top n (part work.old b) × InRing q n (part work.old c) }
-    ensures work_after { work.new ≡ product_added n q a b c work.old }
+    ensures added { work.new ≡ product_added n q a b c work.old }
     ensures multiplied_in_place { MultipliedInPlace q n a b c work.old work.new }
 {
     let modulus = reduction::with_reciprocal(q);

@@ -1,5 +1,7 @@
 // A number below 2^64 modulo q without a division (Barrett): the quotient is the high half of the product with q's reciprocal, and at
 // most one too small. Nothing is refused: callers give a q below 2^31. The contracts are `%` and `/` of whole numbers.
+#![tactic(auto)]
+
 ghost use Rattle.std.specs.Prelude.{◌≡◌, ◌*◌, ◌%◌, ◌/◌, ◌<◌};
 ghost use Rattle.reduction.specs.Moduli.{Reciprocal};
 

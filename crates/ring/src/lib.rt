@@ -1,6 +1,8 @@
 // Sums, differences and multiples in R_q over the work words (01, "Ring, monomials, octets"): elements stand in one slice, each from an
 // offset on, or in another list. Nothing is refused: callers keep parts within the words and coefficients below q. Contracts cite
 // specs/Work.antt; specs/Coefficients.antt has the formula of a sum.
+#![tactic(auto)]
+
 ghost use Rattle.std.specs.Prelude.{cond, ◌≡◌, ◌+◌, ◌-◌, ◌%◌, ◌<◌, ◌≤◌, eqb, length, replicate};
 ghost use Rattle.definitions.specs.Sequences.{every, tabulate};
 ghost use Rattle.definitions.specs.Ring.{scale, InRing};

@@ -3,6 +3,8 @@
 // set in edition 1, or seven, the last of which is the edition; any other is malformed, refusal 11. Refusals are text here, as roomsheet
 // prints them. The contracts cite the definitions' line_answer and roomsheet; proofs/Texts.antt shows that a whole run prints roomsheet of
 // the whole input.
+#![tactic(auto)]
+
 ghost use Rattle.std.specs.Prelude.{◌≡◌, [], ◌∷◌, ◌++◌, ◌+◌, ◌≤◌, length, take, drop};
 ghost use Rattle.definitions.specs.Parameters.{limits_answer};
 ghost use Rattle.definitions.specs.Roomsheet.{set_of, limits_text, line_answer, roomsheet};
@@ -151,10 +153,10 @@ pub fn answer_chunk(text: &mut [u8], have: usize, out: &mut [u8]) -> Chunk
 
 // Answers a last line that has no newline; one that is empty counts for nothing.
 pub fn answer_last(text: &[u8], out: &mut [u8]) -> usize
-    requires in_bounds { 33 ≤ length out.old }
+    requires room { 33 ≤ length out.old }
     requires without { Without 10 text.now }
-    ensures upper_bound { result ≤ length out.new }
-    ensures out_after { take result out.new ≡ roomsheet text.now }
+    ensures within { result ≤ length out.new }
+    ensures answered { take result out.new ≡ roomsheet text.now }
 {
     if text.len() == 0 {
         return 0;

@@ -1,6 +1,8 @@
 // Reading roomsheet's text (01, "roomsheet", with 02, Q-7): where a line ends, how many numbers it has and which, without sign or needless
 // leading zero and at most 4,294,967,295. How many a line is to have is the caller's business; one that is malformed, or has more than there
 // is room for, is told 0. The contracts cite specs/Numbers.antt, which rests on the definitions' is_number, well_formed and numbers_of.
+#![tactic(auto)]
+
 ghost use Rattle.std.specs.Prelude.{◌≡◌, ◌+◌, ◌≤◌, length, drop};
 ghost use Rattle.definitions.specs.Roomsheet.{is_number};
 ghost use Rattle.roomsheet_parse.specs.Parts.{up_to};

@@ -1,5 +1,7 @@
 // Writing roomsheet's answers (01, "roomsheet") into a buffer, each behind what it holds already. Nothing is refused: the caller sees to
 // the room. The contracts cite the definitions' decimal_text and limits_text.
+#![tactic(auto)]
+
 ghost use Rattle.std.specs.Prelude.{◌≡◌, [], ◌∷◌, ◌+◌, ◌≤◌, length};
 ghost use Rattle.definitions.specs.Refusals.{accepted};
 ghost use Rattle.definitions.specs.Roomsheet.{decimal_length, decimal_text, limits_text};

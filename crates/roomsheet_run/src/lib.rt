@@ -1,6 +1,8 @@
 // Runs roomsheet over standard input and output, with buffers that the caller lends. What it prints is proved in roomsheet_lines;
 // here the octets are read and written. A read that fails ends the input, and a write that fails is passed over: the papers leave
 // both free.
+#![tactic(auto)]
+
 ghost use Rattle.std.specs.Prelude.{◌≤◌, ◌<◌, length};
 ghost use Rattle.roomsheet_run.specs.Kept.{KeptLine, ReadSome};
 
@@ -32,7 +34,7 @@ fn read_some(input: &mut [u8], kept: usize, most: usize) -> usize
 // Answers all ended lines among the octets in front, and answers how many octets are kept of the rest.
 fn answer_all(input: &mut [u8], have: usize, output: &mut [u8]) -> usize
     requires have_in_bounds { have ≤ length input.old }
-    requires in_bounds { 33 ≤ length output.old }
+    requires output_room { 33 ≤ length output.old }
     ensures { KeptLine input.new result }
 {
     let mut have = have;
@@ -50,9 +52,9 @@ fn answer_all(input: &mut [u8], have: usize, output: &mut [u8]) -> usize
 // Reads to the end of the input, at most `most` octets at a time, and answers how many octets are kept of a last line without its end.
 // A loop has to end, and nothing says that the input does: the turns counted are more than any run takes.
 fn read_all(input: &mut [u8], most: usize, output: &mut [u8]) -> usize
-    requires in_bounds { 82 ≤ length input.old }
+    requires input_room { 82 ≤ length input.old }
     requires most_nonzero { 0 < most }
-    requires in_bounds_2 { 33 ≤ length output.old }
+    requires output_room { 33 ≤ length output.old }
     ensures { KeptLine input.new result }
 {
     let mut kept = 0;
@@ -70,9 +72,9 @@ fn read_all(input: &mut [u8], most: usize, output: &mut [u8]) -> usize
 
 // Answers the whole input. The buffers hold at least an octet more than is kept of a line, and an answer.
 pub fn run(input: &mut [u8], most: usize, output: &mut [u8])
-    requires in_bounds { 82 ≤ length input.old }
+    requires input_room { 82 ≤ length input.old }
     requires most_nonzero { 0 < most }
-    requires in_bounds_2 { 33 ≤ length output.old }
+    requires output_room { 33 ≤ length output.old }
 {
     let kept = read_all(input, most, output);
     let written = roomsheet_lines::answer_last(&input[..kept], output);

@@ -1,4 +1,6 @@
 // roomsheet on many lines, read 7 octets at a time into buffers that hold little more than a line and an answer.
+#![tactic(auto)]
+
 fn main() {
     let mut input = [0u8; 88];
     let mut output = [0u8; 33];

@@ -2,6 +2,8 @@
 // are added at a time, in 64 bits, or four where no more are left. Where eighty products may pass 2^64, each sum of four is cut at 2^42
 // into a low and a high part. One reduction at the end is enough, and is left to callers of the sums. Nothing is refused: callers keep to
 // 80 coefficients, each below q and those of b below top. The contracts cite ring's linear, through specs/Rows.antt.
+#![tactic(auto)]
+
 ghost use Rattle.std.specs.Prelude.{◌≡◌, ℕ, ◌+◌, ◌*◌, ◌%◌, ◌/◌, ◌<◌, ◌≤◌, length, get_or, replicate};
 ghost use Rattle.definitions.specs.Sequences.{tabulate};
 ghost use Rattle.definitions.specs.Ring.{InRing, element_of};
@@ -87,7 +89,7 @@ fn row_sum(f: Factors, row: &[u64], k: usize) -> u64
 // Eight rows, from row i on, added at the places that they reach.
 fn add_rows(low: &mut [u64], words: &[u32], at: usize, m: usize, row: &[u64], i: usize)
     requires operands { Operands m words.now at row.now × (i < m) × (i + (m + 7) ≤ length low.old) }
-    requires by_index { (k : ℕ) → get_or low.old k 0 + eight_rows (λ s. s) m (part words.now at) (part row.now 7) i k < 18446744073709551616 }
+    requires sums_fit { (k : ℕ) → get_or low.old k 0 + eight_rows (λ s. s) m (part words.now at) (part row.now 7) i k < 18446744073709551616 }
     ensures { Added (eight_rows (λ s. s) m (part words.now at) (part row.now 7) i) low.old low.new }
 {
     let f = factors_from(words, at, m, i);
@@ -103,7 +105,7 @@ fn add_rows(low: &mut [u64], words: &[u32], at: usize, m: usize, row: &[u64], i:
 // The same where at most four rows are left: the others hold nothing.
 fn add_last_rows(low: &mut [u64], words: &[u32], at: usize, m: usize, row: &[u64], i: usize)
     requires operands { Operands m words.now at row.now × (i < m) × (m ≤ i + 4) × (i + (m + 3) ≤ length low.old) }
-    requires by_index { (k : ℕ) → get_or low.old k 0 + eight_rows (λ s. s) m (part words.now at) (part row.now 7) i k < 18446744073709551616 }
+    requires sums_fit { (k : ℕ) → get_or low.old k 0 + eight_rows (λ s. s) m (part words.now at) (part row.now 7) i k < 18446744073709551616 }
     ensures { Added (eight_rows (λ s. s) m (part words.now at) (part row.now 7) i) low.old low.new }
 {
     let f = factors_from(words, at, m, i);
@@ -126,9 +128,9 @@ fn add_cut_rows(
     i: usize,
 )
     requires operands { Operands m words.now at row.now × (i < m) × (i + (m + 7) ≤ length low.old) × (i + (m + 7) ≤ length high.old) }
-    requires by_index { ((k : ℕ) → get_or low.old k 0 < 9223372036854775808) × ((k : ℕ) → get_or high.old k 0 < 9223372036854775808) }
-    ensures added { Added (eight_rows (λ s. s % 4398046511104) m (part words.now at) (part row.now 7) i) low.old low.new }
-    ensures added_2 { Added (eight_rows (λ s. s / 4398046511104) m (part words.now at) (part row.now 7) i) high.old high.new }
+    requires sums_fit { ((k : ℕ) → get_or low.old k 0 < 9223372036854775808) × ((k : ℕ) → get_or high.old k 0 < 9223372036854775808) }
+    ensures low_added { Added (eight_rows (λ s. s % 4398046511104) m (part words.now at) (part row.now 7) i) low.old low.new }
+    ensures high_added { Added (eight_rows (λ s. s / 4398046511104) m (part words.now at) (part row.now 7) i) high.old high.new }
 {
     let f = factors_from(words, at, m, i);
     let g = factors_from(words, at, m, i + 4);
@@ -146,7 +148,7 @@ fn add_cut_rows(
 // All rows, eight at a time, to sums that are 0: the product, where it fits a word at each place.
 fn all_rows(low: &mut [u64], words: &[u32], at: usize, m: usize, row: &[u64])
     requires operands { Operands m words.now at row.now × (low.old ≡ replicate 168 0) }
-    requires by_index { (k : ℕ) → linear m (part words.now at) (part row.now 7) k < 18446744073709551616 }
+    requires sums_fit { (k : ℕ) → linear m (part words.now at) (part row.now 7) k < 18446744073709551616 }
     ensures { (k : ℕ) → get_or low.new k 0 ≡ linear m (part words.now at) (part row.now 7) k }
 {
     let mut i = 0;

@@ -2,6 +2,8 @@
 // The secret's unused bits are judged (7), the polynomial's coefficients as they are read (8), then the top coefficients of the secret's
 // elements (14); the set and the lengths are the caller's to test. The work words are left as they come, after a refusal too; the caller
 // clears them. The contracts cite the definitions' secret_x, secret_y, full_degree, value and secret_tests.
+#![tactic(auto)]
+
 ghost use Rattle.std.specs.Prelude.{◌≡◌, ◌&&◌, ◌+◌, ◌*◌, ◌≤◌, length};
 ghost use Rattle.definitions.specs.Parameters.{small_bits, small_length, secret_length, work_length};
 ghost use Rattle.definitions.specs.Ring.{full_degree};

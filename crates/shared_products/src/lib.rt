@@ -5,6 +5,8 @@
 // mask's elements in the first six parts, the factor of the key in part 6, the sum in part 7. While the sum of two elements of the mask is
 // multiplied, it stands in the place of one of them, which is then restored. Nothing is refused. The contracts cite the definitions'
 // product_of, through mask_products' specs and specs/Sharing.antt.
+#![tactic(auto)]
+
 ghost use Rattle.std.specs.Prelude.{◌≡◌, ◌+◌, ◌*◌, ◌%◌, ◌≤◌, ◌<◌, length, take};
 ghost use Rattle.definitions.specs.Sequences.{tabulate};
 ghost use Rattle.definitions.specs.Parameters.{degree, monomial_count};
@@ -30,9 +32,9 @@ fn diagonal_at(p: Parameters, i: usize) -> usize
 // One element of the key and its product with the mask's at the same place, into the list.
 fn prepare_element(p: Parameters, public: &[u8], i: usize, work: &mut [u32], list: &mut [u32])
     requires key_and_mask { KeyAndMask (set_from p) public.now work.old × (p.dx ≡ p.dr) × (i < monomial_count p.dx) }
-    requires n_in_bounds { 2 * (monomial_count p.dx * p.n) ≤ length list.old }
-    ensures work_value { take (6 * p.n) (after work) ≡ take (6 * p.n) (before work) }
-    ensures list_value { after list ≡ element_prepared (set_from p) (polynomial_from (set_from p) (before public)) (mask_in (set_from p) (before work)) i (before list) }
+    requires list_room { 2 * (monomial_count p.dx * p.n) ≤ length list.old }
+    ensures mask_kept { take (6 * p.n) (after work) ≡ take (6 * p.n) (before work) }
+    ensures prepared { after list ≡ element_prepared (set_from p) (polynomial_from (set_from p) (before public)) (mask_in (set_from p) (before work)) i (before list) }
 {
     let n = p.n as usize;
     let diagonal = diagonal_at(p, i);

@@ -4,6 +4,8 @@
 // alike, so the compiler shifts four words at once. A list that ends early counts as going on with zeros, so the lengths are free; unused
 // bits are not looked at, and nothing is refused. The contract cites the definitions' unpacked, those of the steps specs/Lanes.antt. The loops
 // over groups are written once, with b as a variable, and called with a constant.
+#![tactic(auto)]
+
 ghost use Rattle.std.specs.Prelude.{◌≡◌, ◌++◌, ℕ, ◌+◌, ◌-◌, ◌*◌, ◌/◌, ◌≤◌, ◌<◌, length, take, drop, replicate};
 ghost use Rattle.definitions.specs.Octets.{number_of, unpacked};
 ghost use Rattle.packing.specs.Fields.{fields_of};

@@ -5,6 +5,8 @@
 // the rows are taken by falling powers of y. Each term but one costs one product with a small element, and five parts of n words serve every
 // degree: u_x, u_y, the value, the row and a spare one. Each coefficient is read once, and 8 is answered at the first that is not below q; what
 // the words hold then is left open. The contracts cite the definitions' value, judging's fit_number and specs/Horner.antt.
+#![tactic(auto)]
+
 ghost use Rattle.std.specs.Prelude.{◌≡◌, ℕ, ◌+◌, ◌*◌, ◌%◌, ◌≤◌, ◌<◌, length};
 ghost use Rattle.definitions.specs.Parameters.{monomial_count};
 ghost use Rattle.definitions.specs.Ring.{InRing};
@@ -27,7 +29,7 @@ fn read_element(
     at: usize,
 ) -> u32
     requires { Sizes n qlen work.old × (element < 45) × (element * n * qlen + n * qlen ≤ length octets.now) × (at + n ≤ length work.old) }
-    ensures value { result ≡ coefficient_number (fits_at q n qlen octets.now element) }
+    ensures judged { result ≡ coefficient_number (fits_at q n qlen octets.now element) }
     ensures placed { result ≡ 0 → Placed n at (polynomial_in n qlen octets.now element) work.old work.new }
 {
     let from = element * n * qlen;
@@ -51,7 +53,7 @@ fn step(work: &mut [u32], at: usize, factor: usize, next: usize, count: usize, n
 fn row(octets: &[u8], d: usize, t: usize, n: usize, qlen: usize, q: u32, work: &mut [u32]) -> u32
     requires sizes { Sizes n qlen work.old × (d ≤ 8) × (t ≤ d) × (length octets.now ≡ monomial_count d * n * qlen) × (16 ≤ q) × (q < 2147483648) }
     requires in_ring { InRing 16 n (part work.old 0) }
-    ensures value { result ≡ coefficient_number (row_fits d (fits_at q n qlen octets.now) t) }
+    ensures judged { result ≡ coefficient_number (row_fits d (fits_at q n qlen octets.now) t) }
     ensures placed { result ≡ 0 → Placed n (3 * n) (λ k. row_of n d (polynomial_in n qlen octets.now) (part work.old 0) t k % q) work.old work.new }
 {
     let mut first = 0;
@@ -72,8 +74,8 @@ fn row(octets: &[u8], d: usize, t: usize, n: usize, qlen: usize, q: u32, work: &
 pub fn evaluate(octets: &[u8], d: usize, n: usize, qlen: usize, q: u32, work: &mut [u32]) -> u32
     requires sizes { Sizes n qlen work.old × (d ≤ 8) × (length octets.now ≡ monomial_count d * n * qlen) × (16 ≤ q) × (q < 2147483648) }
     requires in_ring { InRing 16 n (part work.old 0) × InRing 16 n (part work.old n) }
-    ensures value { result ≡ fit_number q (decoded qlen (monomial_count d * n) octets.now) }
-    ensures k_after { result ≡ 0 → (k : ℕ) → k < n → part work.new (2 * n) k ≡ value n d (polynomial_in n qlen octets.now) (part work.old 0) (part work.old n) k % q }
+    ensures judged { result ≡ fit_number q (decoded qlen (monomial_count d * n) octets.now) }
+    ensures evaluated { result ≡ 0 → (k : ℕ) → k < n → part work.new (2 * n) k ≡ value n d (polynomial_in n qlen octets.now) (part work.old 0) (part work.old n) k % q }
 {
     let mut t = 0;
     while t <= d {

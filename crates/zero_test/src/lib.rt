@@ -2,6 +2,8 @@
 // It refuses a length that is not the exact one (6), a secret with an unused bit set (7), a coefficient of the key that is not below q (8)
 // and a secret element with a zero top coefficient (14); a refusal leaves the answer as it was. The set is accepted. The work words are zero
 // after every ending past the length test. The contract is the definitions' TellsZero.
+#![tactic(auto)]
+
 ghost use Rattle.definitions.specs.Promises.{TellsZero};
 ghost use Rattle.definitions.specs.Demand3.{AcceptedSet};
 ghost use Rattle.parameters.specs.Answers.{set_from};
