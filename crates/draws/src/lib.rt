@@ -11,7 +11,7 @@ ghost use Rattle.draws.specs.Runs.{said, drawn_answer};
 use parameters::Parameters;
 
 // What a run of draws answers: the groups that it took and how many of them it dropped, or that the octets ended.
-#[derive(Drop)]
+#[derive(Clone, Copy)]
 pub enum Run {
     Complete(usize, usize),
     Exhausted,

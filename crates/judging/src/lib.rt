@@ -13,14 +13,14 @@ ghost use Rattle.judging.specs.Reading.{reading_as, coefficient_answer, readings
 use parameters::refusals;
 
 // What reading a coefficient finds: its value, or that it is too large.
-#[derive(Drop)]
+#[derive(Clone, Copy)]
 pub enum Coefficient {
     Below(u32),
     TooLarge,
 }
 
 // What reading several coefficients at once finds: that each is below q, or that one is too large.
-#[derive(Drop)]
+#[derive(Clone, Copy)]
 pub enum Coefficients {
     Below,
     TooLarge,

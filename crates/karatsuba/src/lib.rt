@@ -15,7 +15,7 @@ ghost use Rattle.karatsuba.specs.Products.{Halvable, LevelBelow, Placing, Multip
 use reduction::Modulus;
 
 // How a product of m coefficients is halved: so many times, down to leaves; m is leaf times 2^levels.
-#[derive(Drop)]
+#[derive(Clone, Copy)]
 pub struct Halving {
     pub levels: usize,
     pub leaf: usize,

@@ -20,7 +20,7 @@ use draws::Run;
 use parameters::Parameters;
 
 // What is drawn for keys: the octets used, the groups and the elements dropped; or that the octets ended.
-#[derive(Drop)]
+#[derive(Clone, Copy)]
 pub enum KeyRun {
     Complete(usize, usize, usize),
     Exhausted,

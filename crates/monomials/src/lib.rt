@@ -10,7 +10,7 @@ ghost use Rattle.definitions.specs.Monomials.{monomial_at, same_monomial};
 ghost use Rattle.monomials.specs.Pairs.{monomial_from};
 
 // A monomial, by its exponents of x and of y.
-#[derive(Drop)]
+#[derive(Clone, Copy)]
 pub struct Exponents {
     pub x: u8,
     pub y: u8,

@@ -14,7 +14,7 @@ ghost use Rattle.parameters.specs.Answers.{set_from, numbers_from, set_answer, c
 
 // The numbers of a set, tested or not: giophantus_set of the C interface.
 #[repr(C)]
-#[derive(Drop)]
+#[derive(Clone, Copy)]
 pub struct SetNumbers {
     pub l: u32,
     pub q: u32,
@@ -26,7 +26,7 @@ pub struct SetNumbers {
 }
 
 // A set that the constructor accepted, wherever it stands outside this crate.
-#[derive(Drop)]
+#[derive(Clone, Copy)]
 pub struct Parameters {
     pub l: u32,
     pub q: u32,
@@ -38,14 +38,14 @@ pub struct Parameters {
 }
 
 // What the constructor answers: the set, or the refusal.
-#[derive(Drop)]
+#[derive(Clone, Copy)]
 pub enum Checked {
     Accepted(Parameters),
     Refused(u32),
 }
 
 // The noise bound B and the headroom s of an accepted set.
-#[derive(Drop)]
+#[derive(Clone, Copy)]
 pub struct SetLimits {
     pub bound: u32,
     pub headroom: u32,

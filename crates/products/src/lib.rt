@@ -19,7 +19,7 @@ use reduction::Modulus;
 const SHORT: usize = 80;
 
 // a × b + c in R_q, to be taken in place: the elements of n coefficients stand from these offsets on in the words, and b's are below top.
-#[derive(Drop)]
+#[derive(Clone, Copy)]
 struct Product {
     a: usize,
     b: usize,

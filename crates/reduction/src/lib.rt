@@ -6,7 +6,7 @@ ghost use Rattle.std.specs.Prelude.{◌≡◌, ◌*◌, ◌%◌, ◌/◌, ◌<�
 ghost use Rattle.reduction.specs.Moduli.{Reciprocal};
 
 // A modulus and its reciprocal, the largest word divided by it.
-#[derive(Drop)]
+#[derive(Clone, Copy)]
 pub struct Modulus {
     pub q: u32,
     pub reciprocal: u64,

@@ -17,7 +17,7 @@ ghost use Rattle.roomsheet_lines.specs.Answered.{LinesAnswered, Keeps, ChunkAnsw
 use parameters::{Checked, Parameters, SetNumbers, refusals};
 
 // How far the ended lines of a text were answered; done where none is left.
-#[derive(Drop)]
+#[derive(Clone, Copy)]
 pub struct Lines {
     pub used: usize,
     pub written: usize,
@@ -101,7 +101,7 @@ fn answer_lines(text: &[u8], out: &mut [u8]) -> Lines
 }
 
 // How far the text in front of a buffer was answered; the octets kept of it stand there now. Done where no ended line is left.
-#[derive(Drop)]
+#[derive(Clone, Copy)]
 pub struct Chunk {
     pub kept: usize,
     pub written: usize,

@@ -9,7 +9,7 @@ ghost use Rattle.roomsheet_parse.specs.Parts.{up_to};
 ghost use Rattle.roomsheet_parse.specs.Numbers.{digits_fit, Finds, NumbersRead};
 
 // What reading a number finds: the number and the place past it, or that it is malformed.
-#[derive(Drop)]
+#[derive(Clone, Copy)]
 pub enum Number {
     Value { value: u32, next: usize },
     Malformed,

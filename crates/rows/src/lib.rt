@@ -24,7 +24,7 @@ pub const UNCUT: u64 = 230584300921369395;
 const PASS: usize = 8;
 
 // The factors of four rows.
-#[derive(Drop)]
+#[derive(Clone, Copy)]
 struct Factors {
     a0: u32,
     a1: u32,
