@@ -14,7 +14,6 @@ ghost use Rattle.definitions.specs.Ring.{InRing};
 ghost use Rattle.definitions.specs.Monomials.{constant_term};
 ghost use Rattle.definitions.specs.Octets.{encoded};
 ghost use Rattle.definitions.specs.Calls.{polynomial_from, small_of, noise_of};
-ghost use Rattle.definitions.specs.Promises.{before, after};
 ghost use Rattle.definitions.specs.Demand3.{AcceptedSet};
 ghost use Rattle.parameters.specs.Answers.{set_from};
 ghost use Rattle.ring.specs.Work.{written};
@@ -28,7 +27,7 @@ use parameters::Parameters;
 fn add_noise(p: Parameters, noise: &[u8], m: usize, work: &mut [u32])
     requires accepted_set { AcceptedSet (set_from p) × (length work.old ≡ work_length (set_from p)) × InRing p.q p.n (sum_in (set_from p) work.old) }
     requires noise_room { m * small_length (set_from p) + small_length (set_from p) ≤ length noise.now }
-    ensures { SumGains (set_from p) (λ mask k. p.l * noise_of (set_from p) (before noise) m k) (before work) (after work) }
+    ensures { SumGains (set_from p) (λ mask k. p.l * noise_of (set_from p) noise.now m k) work.old work.new }
 {
     let n = p.n as usize;
     let from = 6 * n;
@@ -41,7 +40,7 @@ fn add_noise(p: Parameters, noise: &[u8], m: usize, work: &mut [u32])
 fn add_message(p: Parameters, message: &[u8], m: usize, work: &mut [u32])
     requires accepted_set { AcceptedSet (set_from p) × (length work.old ≡ work_length (set_from p)) × InRing p.q p.n (sum_in (set_from p) work.old) }
     requires element { m < monomial_count (degree (set_from p)) }
-    ensures { SumGains (set_from p) (λ mask. constant_term (degree (set_from p)) (small_of (set_from p) (before message)) m) (before work) (after work) }
+    ensures { SumGains (set_from p) (λ mask. constant_term (degree (set_from p)) (small_of (set_from p) message.now) m) work.old work.new }
 {
     if m + 1 != monomials::monomial_count(p.dx + p.dr) {
         return;
@@ -57,7 +56,7 @@ fn add_message(p: Parameters, message: &[u8], m: usize, work: &mut [u32])
 fn product_element(p: Parameters, public: &[u8], list: &[u32], m: usize, work: &mut [u32])
     requires key_and_mask { KeyAndMask (set_from p) public.now work.old × (m < monomial_count (degree (set_from p))) }
     requires prepared_key { 0 < length list.now → PreparedKey (set_from p) public.now work.old list.now }
-    ensures { SumIs (set_from p) (product_term (set_from p) (polynomial_from (set_from p) (before public)) m) (before work) (after work) }
+    ensures { SumIs (set_from p) (product_term (set_from p) (polynomial_from (set_from p) public.now) m) work.old work.new }
 {
     if list.len() == 0 {
         mask_products::product_at(p, public, m, work);
@@ -78,7 +77,7 @@ fn sum_element(
 )
     requires encrypting { Encrypting (set_from p) public.now noise.now work.old × (m < monomial_count (degree (set_from p))) }
     requires prepared_key { 0 < length list.now → PreparedKey (set_from p) public.now work.old list.now }
-    ensures { SumIs (set_from p) (encrypted_sum (set_from p) (before public) (before message) (before noise) m) (before work) (after work) }
+    ensures { SumIs (set_from p) (encrypted_sum (set_from p) public.now message.now noise.now m) work.old work.new }
 {
     product_element(p, public, list, m, work);
     add_noise(p, noise, m, work);
@@ -89,7 +88,7 @@ fn sum_element(
 fn encode_element(p: Parameters, m: usize, work: &[u32], ciphertext: &mut [u8])
     requires accepted_set { AcceptedSet (set_from p) × (length work.now ≡ work_length (set_from p)) }
     requires element { (m < monomial_count (degree (set_from p))) × (length ciphertext.old ≡ ciphertext_length (set_from p)) }
-    ensures { after ciphertext ≡ written (m * p.n * qlen p.q) (encoded (qlen p.q) (tabulate p.n (sum_in (set_from p) (before work)))) (before ciphertext) }
+    ensures { ciphertext.new ≡ written (m * p.n * qlen p.q) (encoded (qlen p.q) (tabulate p.n (sum_in (set_from p) work.now))) ciphertext.old }
 {
     let n = p.n as usize;
     let width = lengths::octets_of_coefficient(p.q);
@@ -112,7 +111,7 @@ fn write_each(
 )
     requires encrypting { Encrypting (set_from p) public.now noise.now work.old × (length ciphertext.old ≡ ciphertext_length (set_from p)) }
     requires prepared_key { 0 < length list.now → PreparedKey (set_from p) public.now work.old list.now }
-    ensures { after ciphertext ≡ encrypted_from (set_from p) (before public) (before message) (before noise) (before work) }
+    ensures { ciphertext.new ≡ encrypted_from (set_from p) public.now message.now noise.now work.old }
 {
     let count = monomials::monomial_count(p.dx + p.dr);
     let mut m = 0;
@@ -135,7 +134,7 @@ fn write_shared(
 )
     requires encrypting { Encrypting (set_from p) public.now noise.now work.old × (length ciphertext.old ≡ ciphertext_length (set_from p)) }
     requires one_degree { (p.dx ≡ p.dr) × (2 * (monomial_count p.dx * p.n) ≤ length list.old) }
-    ensures { after ciphertext ≡ encrypted_from (set_from p) (before public) (before message) (before noise) (before work) }
+    ensures { ciphertext.new ≡ encrypted_from (set_from p) public.now message.now noise.now work.old }
 {
     shared_products::prepare(p, public, work, list);
     write_each(p, public, message, noise, list, ciphertext, work);
@@ -152,7 +151,7 @@ fn write_short(
 )
     requires encrypting { Encrypting (set_from p) public.now noise.now work.old × (length ciphertext.old ≡ ciphertext_length (set_from p)) }
     requires one_degree { (p.dx ≡ p.dr) × (monomial_count p.dx * p.n ≤ 1024) }
-    ensures { after ciphertext ≡ encrypted_from (set_from p) (before public) (before message) (before noise) (before work) }
+    ensures { ciphertext.new ≡ encrypted_from (set_from p) public.now message.now noise.now work.old }
 {
     let mut list = [0u32; 2048];
     write_shared(p, public, message, noise, &mut list, ciphertext, work);
@@ -169,7 +168,7 @@ fn write_long(
 )
     requires encrypting { Encrypting (set_from p) public.now noise.now work.old × (length ciphertext.old ≡ ciphertext_length (set_from p)) }
     requires one_degree { (p.dx ≡ p.dr) × (monomial_count p.dx * p.n ≤ 12288) }
-    ensures { after ciphertext ≡ encrypted_from (set_from p) (before public) (before message) (before noise) (before work) }
+    ensures { ciphertext.new ≡ encrypted_from (set_from p) public.now message.now noise.now work.old }
 {
     let mut list = [0u32; 24576];
     write_shared(p, public, message, noise, &mut list, ciphertext, work);
@@ -185,7 +184,7 @@ fn write_unshared(
     work: &mut [u32],
 )
     requires { Encrypting (set_from p) public.now noise.now work.old × (length ciphertext.old ≡ ciphertext_length (set_from p)) }
-    ensures { after ciphertext ≡ encrypted_from (set_from p) (before public) (before message) (before noise) (before work) }
+    ensures { ciphertext.new ≡ encrypted_from (set_from p) public.now message.now noise.now work.old }
 {
     let none = [0u32; 0];
     write_each(p, public, message, noise, &none, ciphertext, work);
@@ -201,7 +200,7 @@ pub fn write_elements(
     work: &mut [u32],
 )
     requires { Encrypting (set_from p) public.now noise.now work.old × (length ciphertext.old ≡ ciphertext_length (set_from p)) }
-    ensures { after ciphertext ≡ encrypted_from (set_from p) (before public) (before message) (before noise) (before work) }
+    ensures { ciphertext.new ≡ encrypted_from (set_from p) public.now message.now noise.now work.old }
 {
     if p.dx != p.dr {
         write_unshared(p, public, message, noise, ciphertext, work);

@@ -1,7 +1,8 @@
 -- What each call promises, as one equation over its arguments as a contract sees them: what the caller has at exit, the number, every output,
 -- the work words and, where a request asks for it, what stays, is what 01 and 02 define from what was lent at entry.
 --
---   Borrowed         what is lent, at entry and at exit;  Buffer: octets or words;  Cell: a number behind a pointer
+--   Read             octets or words lent to be read;  given, kept: what they hold at entry, and at exit
+--   Borrowed         what is lent to be written, at entry and at exit;  Buffer: octets or words;  Cell: a number behind a pointer
 --   before, after    what a buffer or a cell holds at entry, and at exit
 --   Bounds, Measures the set's bound and headroom; its lengths
 --   Makes            key generation (01: key making);  TellsZero: the zero test;  Encrypts: encryption (sealing);  Adds: addition;
@@ -11,21 +12,30 @@
 -- The number that the call answers comes last.
 -- Assumes nothing.
 use Rattle.std.specs.Prelude.{ℕ, ◌≡◌, List}
-use Rattle.std.specs.Borrow.{Bor}
+use Rattle.std.specs.Borrow.{Bor, MutBor}
 use denote.Triple.Both.{Both}
 use Rattle.definitions.specs.Parameters.{Parameters, LimitsExit, limits_exit, LengthsExit, lengths_exit}
 use Rattle.definitions.specs.Calls.{KeygenExit, keygen_exit, IsZeroExit, is_zero_exit, EncryptExit, encrypt_exit, AddExit, add_exit, DecryptExit, decrypt_exit}
 use Rattle.definitions.specs.MultiplyAdd.{MultiplyAddExit, multiply_add_exit}
 use Rattle.definitions.specs.Conversions.{ConversionExit, from_octets_exit, to_octets_exit, packed_from_exit, packed_to_exit}
 
+abbrev pub Read : Type 0
+Read = Both (Bor (List ℕ)) (Bor (List ℕ))
+
 abbrev pub Borrowed : Type 0 → Type 0
-Borrowed A = Both (Bor A) (Bor A)
+Borrowed A = Both (MutBor A) (MutBor A)
 
 abbrev pub Buffer : Type 0
 Buffer = Borrowed (List ℕ)
 
 abbrev pub Cell : Type 0
 Cell = Borrowed ℕ
+
+abbrev pub given : Read → List ℕ
+given x = x.entry.now
+
+abbrev pub kept : Read → List ℕ
+kept x = x.exit.now
 
 abbrev pub before : {A : Type 0} → Borrowed A → A
 before x = x.entry.now
@@ -49,7 +59,7 @@ Measures p secret public message ciphertext work r =
     (lengths_exit p
     (record { secret = before secret; public = before public; message = before message; ciphertext = before ciphertext; work = before work }))
 
-abbrev pub Makes : Parameters → Buffer → Buffer → Buffer → Buffer → Cell → Cell → Cell → ℕ → Type 0
+abbrev pub Makes : Parameters → Read → Buffer → Buffer → Buffer → Cell → Cell → Cell → ℕ → Type 0
 Makes p random secret public work used dropped_groups dropped_elements r =
     ◌≡◌ {A = KeygenExit}
     (record {
@@ -61,47 +71,47 @@ Makes p random secret public work used dropped_groups dropped_elements r =
       dropped_elements = after dropped_elements;
       work = after work;
     })
-    (keygen_exit p (before random) (before secret) (before public) (before used) (before dropped_groups) (before dropped_elements) (before work))
+    (keygen_exit p (given random) (before secret) (before public) (before used) (before dropped_groups) (before dropped_elements) (before work))
 
-abbrev pub TellsZero : Parameters → Buffer → Buffer → Buffer → Cell → ℕ → Type 0
+abbrev pub TellsZero : Parameters → Read → Read → Buffer → Cell → ℕ → Type 0
 TellsZero p secret public work zero r =
     ◌≡◌ {A = IsZeroExit}
     (record { refusal = r; zero = after zero; work = after work })
-    (is_zero_exit p (before secret) (before public) (before zero) (before work))
+    (is_zero_exit p (given secret) (given public) (before zero) (before work))
 
-abbrev pub Encrypts : Parameters → Buffer → Buffer → Buffer → Buffer → Buffer → Cell → Cell → ℕ → Type 0
+abbrev pub Encrypts : Parameters → Read → Read → Read → Buffer → Buffer → Cell → Cell → ℕ → Type 0
 Encrypts p public message random ciphertext work used dropped_groups r =
     ◌≡◌ {A = EncryptExit}
     (record { refusal = r; ciphertext = after ciphertext; used = after used; dropped_groups = after dropped_groups; work = after work })
-    (encrypt_exit p (before public) (before message) (before random) (before ciphertext) (before used) (before dropped_groups) (before work))
+    (encrypt_exit p (given public) (given message) (given random) (before ciphertext) (before used) (before dropped_groups) (before work))
 
-abbrev pub Adds : Parameters → Buffer → Buffer → Buffer → ℕ → Type 0
-Adds p a b sum r = ◌≡◌ {A = AddExit} (record { refusal = r; sum = after sum }) (add_exit p (before a) (before b) (before sum))
+abbrev pub Adds : Parameters → Read → Read → Buffer → ℕ → Type 0
+Adds p a b sum r = ◌≡◌ {A = AddExit} (record { refusal = r; sum = after sum }) (add_exit p (given a) (given b) (before sum))
 
-abbrev pub Decrypts : Parameters → Buffer → Buffer → Buffer → Buffer → ℕ → Type 0
+abbrev pub Decrypts : Parameters → Read → Read → Buffer → Buffer → ℕ → Type 0
 Decrypts p secret ciphertext message work r =
     ◌≡◌ {A = DecryptExit}
     (record { refusal = r; message = after message; work = after work })
-    (decrypt_exit p (before secret) (before ciphertext) (before message) (before work))
+    (decrypt_exit p (given secret) (given ciphertext) (before message) (before work))
 
-abbrev pub MultipliesAndAdds : Parameters → Buffer → Buffer → Buffer → ℕ → Type 0
+abbrev pub MultipliesAndAdds : Parameters → Read → Read → Buffer → ℕ → Type 0
 MultipliesAndAdds p a b c r =
     ◌≡◌ {A = MultiplyAddExit}
-    (record { refusal = r; a = after a; b = after b; c = after c })
-    (multiply_add_exit p (before a) (before b) (before c))
+    (record { refusal = r; a = kept a; b = kept b; c = after c })
+    (multiply_add_exit p (given a) (given b) (before c))
 
 -- a conversion by what it leaves: from the buffer given to the one lent for its output
-abbrev pub Converts : (Parameters → ℕ → List ℕ → List ℕ → ConversionExit) → Parameters → ℕ → Buffer → Buffer → ℕ → Type 0
-Converts exit p elements given out r = record { refusal = r; converted = after out } ≡ exit p elements (before given) (before out)
+abbrev pub Converts : (Parameters → ℕ → List ℕ → List ℕ → ConversionExit) → Parameters → ℕ → Read → Buffer → ℕ → Type 0
+Converts exit p elements source out r = record { refusal = r; converted = after out } ≡ exit p elements (given source) (before out)
 
-abbrev pub Decodes : Parameters → ℕ → Buffer → Buffer → ℕ → Type 0
+abbrev pub Decodes : Parameters → ℕ → Read → Buffer → ℕ → Type 0
 Decodes = Converts from_octets_exit
 
-abbrev pub Encodes : Parameters → ℕ → Buffer → Buffer → ℕ → Type 0
+abbrev pub Encodes : Parameters → ℕ → Read → Buffer → ℕ → Type 0
 Encodes = Converts to_octets_exit
 
-abbrev pub Unpacks : Parameters → ℕ → Buffer → Buffer → ℕ → Type 0
+abbrev pub Unpacks : Parameters → ℕ → Read → Buffer → ℕ → Type 0
 Unpacks = Converts packed_from_exit
 
-abbrev pub Packs : Parameters → ℕ → Buffer → Buffer → ℕ → Type 0
+abbrev pub Packs : Parameters → ℕ → Read → Buffer → ℕ → Type 0
 Packs = Converts packed_to_exit

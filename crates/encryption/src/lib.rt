@@ -10,7 +10,7 @@
 ghost use Rattle.std.specs.Prelude.{◌≡◌, length, take};
 ghost use Rattle.definitions.specs.Parameters.{work_length};
 ghost use Rattle.definitions.specs.Calls.{mask_coefficients, mask_draws};
-ghost use Rattle.definitions.specs.Promises.{before, after, Encrypts};
+ghost use Rattle.definitions.specs.Promises.{Encrypts};
 ghost use Rattle.definitions.specs.Demand3.{AcceptedSet};
 ghost use Rattle.parameters.specs.Answers.{set_from};
 ghost use Rattle.draws.specs.Runs.{said, drawn_answer};
@@ -22,7 +22,7 @@ use parameters::{Parameters, refusals};
 // The mask, into the first parts of the work words.
 fn draw_mask(p: Parameters, random: &[u8], work: &mut [u32]) -> Run
     requires { AcceptedSet (set_from p) × (length work.old ≡ work_length (set_from p)) }
-    ensures { said result (take (mask_coefficients (set_from p)) (after work)) ≡ drawn_answer (mask_draws (set_from p) (before random)) }
+    ensures { said result (take (mask_coefficients (set_from p)) work.new) ≡ drawn_answer (mask_draws (set_from p) random.now) }
 {
     let from = 0;
     let end = monomials::monomial_count(p.dr) * (p.n as usize);

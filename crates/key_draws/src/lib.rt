@@ -10,7 +10,6 @@ ghost use Rattle.std.specs.Prelude.{◌≡◌, ◌∷◌, [], ◌+◌, ◌*◌, 
 ghost use Rattle.std.proofs.Math.Seq.{slice};
 ghost use Rattle.definitions.specs.Draws.{secret_draws};
 ghost use Rattle.definitions.specs.Calls.{half_draws, halves_used, key_draws};
-ghost use Rattle.definitions.specs.Promises.{before, after};
 ghost use Rattle.definitions.specs.Demand3.{AcceptedSet};
 ghost use Rattle.parameters.specs.Answers.{set_from};
 ghost use Rattle.draws.specs.Runs.{said, drawn_answer};
@@ -29,8 +28,8 @@ pub enum KeyRun {
 // An element of the secret from the random octets at a place on, into the work words at a place on.
 fn draw_half(p: Parameters, random: &[u8], start: usize, work: &mut [u32], at: usize) -> Run
     requires { AcceptedSet (set_from p) × (start ≤ length random.now) × (at + p.n ≤ length work.old) }
-    ensures drawn { said result (slice at (at + p.n) (after work) ∷ []) ≡ drawn_answer (secret_draws (set_from p) 1 (drop start (before random))) }
-    ensures work_kept { take at (after work) ≡ take at (before work) }
+    ensures drawn { said result (slice at (at + p.n) work.new ∷ []) ≡ drawn_answer (secret_draws (set_from p) 1 (drop start random.now)) }
+    ensures work_kept { take at work.new ≡ take at work.old }
 {
     let stop = at + p.n as usize;
     draws::draw_secret(random, start, p, &mut work[at..stop])
@@ -39,7 +38,7 @@ fn draw_half(p: Parameters, random: &[u8], start: usize, work: &mut [u32], at: u
 // u_x, then u_y from the octets after it, into the first two parts of the work words.
 fn draw_halves(p: Parameters, random: &[u8], work: &mut [u32]) -> Run
     requires { AcceptedSet (set_from p) × (length work.old ≡ 8 * p.n) }
-    ensures { said result (words_halves (set_from p) (after work)) ≡ drawn_answer (half_draws (set_from p) (before random)) }
+    ensures { said result (words_halves (set_from p) work.new) ≡ drawn_answer (half_draws (set_from p) random.now) }
 {
     let n = p.n as usize;
     let Run::Complete(first, dropped) = draw_half(p, random, 0, work, 0) else {
@@ -77,8 +76,8 @@ fn drawn_end(p: Parameters) -> usize
 // the work words.
 fn draw_terms(p: Parameters, random: &[u8], start: usize, work: &mut [u32]) -> Run
     requires { AcceptedSet (set_from p) × (start ≡ halves_used (set_from p) random.now) × (length work.old ≡ 8 * p.n) }
-    ensures drawn { said result (words_drawn (set_from p) (after work)) ≡ drawn_answer (key_draws (set_from p) (before random)) }
-    ensures work_kept { take (p.n + p.n) (after work) ≡ take (p.n + p.n) (before work) }
+    ensures drawn { said result (words_drawn (set_from p) work.new) ≡ drawn_answer (key_draws (set_from p) random.now) }
+    ensures work_kept { take (p.n + p.n) work.new ≡ take (p.n + p.n) work.old }
 {
     let n = p.n as usize;
     let at = n + n;
@@ -89,8 +88,8 @@ fn draw_terms(p: Parameters, random: &[u8], start: usize, work: &mut [u32]) -> R
 // All that is drawn for keys, into the work words.
 pub fn draw_keys(p: Parameters, random: &[u8], work: &mut [u32]) -> KeyRun
     requires { AcceptedSet (set_from p) × (length work.old ≡ 8 * p.n) }
-    ensures drawn { keys_said (set_from p) result (after work) ≡ keys_drawn (set_from p) (before random) }
-    ensures IsReady { IsReady (set_from p) result (after work) }
+    ensures drawn { keys_said (set_from p) result work.new ≡ keys_drawn (set_from p) random.now }
+    ensures ready { IsReady (set_from p) result work.new }
 {
     let Run::Complete(elements, dropped_elements) = draw_halves(p, random, work) else {
         return KeyRun::Exhausted;

@@ -15,7 +15,7 @@ ghost use Rattle.definitions.specs.Parameters.{small_bits, monomial_count, small
 ghost use Rattle.definitions.specs.Ring.{InRing};
 ghost use Rattle.definitions.specs.Octets.{decoded, coefficients_fit, packed};
 ghost use Rattle.definitions.specs.Calls.{keys_exact};
-ghost use Rattle.definitions.specs.Promises.{before, after, Makes};
+ghost use Rattle.definitions.specs.Promises.{Makes};
 ghost use Rattle.definitions.specs.Demand3.{AcceptedSet, InSmallRing, secret_of};
 ghost use Rattle.parameters.specs.Answers.{set_from};
 ghost use Rattle.ring.specs.Work.{part};
@@ -29,7 +29,7 @@ use parameters::{Parameters, refusals};
 // The octets of the secret element at a place of the work words, into the octets at a place on.
 fn write_half(p: Parameters, work: &[u32], at: usize, secret: &mut [u8], to: usize)
     requires { AcceptedSet (set_from p) × (at + p.n ≤ length work.now) × InSmallRing (set_from p) (slice at (at + p.n) work.now) × (to + small_length (set_from p) ≤ length secret.old) }
-    ensures { Follows to (to + small_length (set_from p)) (packed (small_bits p.l) (small_length (set_from p)) (slice at (at + p.n) (before work))) (before secret) (after secret) }
+    ensures { Follows to (to + small_length (set_from p)) (packed (small_bits p.l) (small_length (set_from p)) (slice at (at + p.n) work.now)) secret.old secret.new }
 {
     let stop = at + p.n as usize;
     let end = to + lengths::small_length(p);
@@ -39,7 +39,7 @@ fn write_half(p: Parameters, work: &[u32], at: usize, secret: &mut [u8], to: usi
 // The secret's octets.
 fn write_secret(p: Parameters, secret: &mut [u8], work: &[u32])
     requires { KeyWords (set_from p) work.now × (length secret.old ≡ small_length (set_from p) + small_length (set_from p)) }
-    ensures { after secret ≡ secret_of (set_from p) (words_x (set_from p) (before work)) (words_y (set_from p) (before work)) }
+    ensures { secret.new ≡ secret_of (set_from p) (words_x (set_from p) work.now) (words_y (set_from p) work.now) }
 {
     let n = p.n as usize;
     let one = lengths::small_length(p);
@@ -51,7 +51,7 @@ fn write_secret(p: Parameters, secret: &mut [u8], work: &[u32])
 fn write_constant(public: &mut [u8], d: usize, n: usize, qlen: usize, q: u32, work: &mut [u32])
     requires sizes { Sizes n qlen work.old × (d ≤ 8) × (length public.old ≡ monomial_count d * n * qlen) × (16 ≤ q) × (q < 2147483648) }
     requires fit { (coefficients_fit q (decoded qlen (monomial_count d * n) public.old) ≡ true) × InRing 16 n (part work.old 0) × InRing 16 n (part work.old n) }
-    ensures { after public ≡ with_constant d n qlen q (before public) (before work) }
+    ensures { public.new ≡ with_constant d n qlen q public.old work.old }
 {
     values::evaluate(public, d, n, qlen, q, work);
     let at = 2 * n;
@@ -64,7 +64,7 @@ fn write_constant(public: &mut [u8], d: usize, n: usize, qlen: usize, q: u32, wo
 // The public key's octets: those of the terms, and of 0 for the constant, until it is known.
 fn write_public(p: Parameters, public: &mut [u8], work: &mut [u32])
     requires { KeyWords (set_from p) work.old × (length public.old ≡ public_length (set_from p)) }
-    ensures { after public ≡ public_in (set_from p) (before work) }
+    ensures { public.new ≡ public_in (set_from p) work.old }
 {
     let n = p.n as usize;
     let qlen = lengths::octets_of_coefficient(p.q);

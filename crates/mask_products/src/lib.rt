@@ -10,7 +10,6 @@ ghost use Rattle.definitions.specs.Sequences.{tabulate};
 ghost use Rattle.definitions.specs.Parameters.{degree, monomial_count, work_length};
 ghost use Rattle.definitions.specs.Ring.{InRing, conv};
 ghost use Rattle.definitions.specs.Calls.{polynomial_from};
-ghost use Rattle.definitions.specs.Promises.{before, after};
 ghost use Rattle.definitions.specs.Demand3.{AcceptedSet};
 ghost use Rattle.parameters.specs.Answers.{set_from};
 ghost use Rattle.ring.specs.Work.{part, written};
@@ -21,7 +20,7 @@ use parameters::Parameters;
 // The sum becomes 0.
 pub fn clear_sum(p: Parameters, work: &mut [u32])
     requires { AcceptedSet (set_from p) × (length work.old ≡ work_length (set_from p)) }
-    ensures { SumIs (set_from p) (λ mask k. 0) (before work) (after work) }
+    ensures { SumIs (set_from p) (λ mask k. 0) work.old work.new }
 {
     let n = p.n as usize;
     let from = 7 * n;
@@ -32,7 +31,7 @@ pub fn clear_sum(p: Parameters, work: &mut [u32])
 // The key's i-th element, into part 6.
 pub fn load_key(p: Parameters, public: &[u8], i: usize, work: &mut [u32])
     requires { KeyAndMask (set_from p) public.now work.old × (i < monomial_count p.dx) }
-    ensures { after work ≡ written (6 * p.n) (tabulate p.n (polynomial_from (set_from p) (before public) i)) (before work) }
+    ensures { work.new ≡ written (6 * p.n) (tabulate p.n (polynomial_from (set_from p) public.now i)) work.old }
 {
     let n = p.n as usize;
     decoding::element(
@@ -49,7 +48,7 @@ pub fn load_key(p: Parameters, public: &[u8], i: usize, work: &mut [u32])
 pub fn multiply_mask(p: Parameters, j: usize, work: &mut [u32])
     requires accepted_set { AcceptedSet (set_from p) × (length work.old ≡ work_length (set_from p)) × (j < 6) }
     requires in_ring { InRing p.q p.n (part work.old (6 * p.n)) × InRing p.q p.n (mask_in (set_from p) work.old j) × InRing p.q p.n (sum_in (set_from p) work.old) }
-    ensures { SumGains (set_from p) (λ mask. conv p.n (part (before work) (6 * p.n)) (mask j)) (before work) (after work) }
+    ensures { SumGains (set_from p) (λ mask. conv p.n (part work.old (6 * p.n)) (mask j)) work.old work.new }
 {
     let n = p.n as usize;
     products::multiply_add(work, 6 * n, j * n, 7 * n, n, p.q, p.q);
@@ -58,7 +57,7 @@ pub fn multiply_mask(p: Parameters, j: usize, work: &mut [u32])
 // One pair of monomials.
 fn add_pair(p: Parameters, public: &[u8], i: usize, j: usize, m: usize, work: &mut [u32])
     requires { Adding (set_from p) m public.now work.old × (i < monomial_count p.dx) × (j < monomial_count p.dr) }
-    ensures { SumGains (set_from p) (pair_term (set_from p) (polynomial_from (set_from p) (before public)) m i j) (before work) (after work) }
+    ensures { SumGains (set_from p) (pair_term (set_from p) (polynomial_from (set_from p) public.now) m i j) work.old work.new }
 {
     if !monomials::same_monomial(p.dx, i, p.dr, j, m) {
         return;
@@ -70,7 +69,7 @@ fn add_pair(p: Parameters, public: &[u8], i: usize, j: usize, m: usize, work: &m
 // One monomial of the key, with each of the mask.
 fn add_element(p: Parameters, public: &[u8], i: usize, m: usize, work: &mut [u32])
     requires { Adding (set_from p) m public.now work.old × (i < monomial_count p.dx) }
-    ensures { SumGains (set_from p) (element_terms (set_from p) (polynomial_from (set_from p) (before public)) m i) (before work) (after work) }
+    ensures { SumGains (set_from p) (element_terms (set_from p) (polynomial_from (set_from p) public.now) m i) work.old work.new }
 {
     let count = monomials::monomial_count(p.dr);
     let mut j = 0;
@@ -83,7 +82,7 @@ fn add_element(p: Parameters, public: &[u8], i: usize, m: usize, work: &mut [u32
 // The m-th element of the product X × r becomes the sum.
 pub fn product_at(p: Parameters, public: &[u8], m: usize, work: &mut [u32])
     requires { KeyAndMask (set_from p) public.now work.old × (m < monomial_count (degree (set_from p))) }
-    ensures { SumIs (set_from p) (product_term (set_from p) (polynomial_from (set_from p) (before public)) m) (before work) (after work) }
+    ensures { SumIs (set_from p) (product_term (set_from p) (polynomial_from (set_from p) public.now) m) work.old work.new }
 {
     clear_sum(p, work);
     let count = monomials::monomial_count(p.dx);

@@ -12,7 +12,6 @@ ghost use Rattle.definitions.specs.Sequences.{tabulate};
 ghost use Rattle.definitions.specs.Parameters.{degree, monomial_count};
 ghost use Rattle.definitions.specs.Ring.{conv, InRing};
 ghost use Rattle.definitions.specs.Calls.{polynomial_from};
-ghost use Rattle.definitions.specs.Promises.{before, after};
 ghost use Rattle.definitions.specs.Demand3.{AcceptedSet};
 ghost use Rattle.parameters.specs.Answers.{set_from};
 ghost use Rattle.ring.specs.Work.{written};
@@ -33,8 +32,8 @@ fn diagonal_at(p: Parameters, i: usize) -> usize
 fn prepare_element(p: Parameters, public: &[u8], i: usize, work: &mut [u32], list: &mut [u32])
     requires key_and_mask { KeyAndMask (set_from p) public.now work.old × (p.dx ≡ p.dr) × (i < monomial_count p.dx) }
     requires list_room { 2 * (monomial_count p.dx * p.n) ≤ length list.old }
-    ensures mask_kept { take (6 * p.n) (after work) ≡ take (6 * p.n) (before work) }
-    ensures prepared { after list ≡ element_prepared (set_from p) (polynomial_from (set_from p) (before public)) (mask_in (set_from p) (before work)) i (before list) }
+    ensures mask_kept { take (6 * p.n) work.new ≡ take (6 * p.n) work.old }
+    ensures prepared { list.new ≡ element_prepared (set_from p) (polynomial_from (set_from p) public.now) (mask_in (set_from p) work.old) i list.old }
 {
     let n = p.n as usize;
     let diagonal = diagonal_at(p, i);
@@ -48,7 +47,7 @@ fn prepare_element(p: Parameters, public: &[u8], i: usize, work: &mut [u32], lis
 // The key's elements and the diagonal, into the list.
 pub fn prepare(p: Parameters, public: &[u8], work: &mut [u32], list: &mut [u32])
     requires { KeyAndMask (set_from p) public.now work.old × (p.dx ≡ p.dr) × (2 * (monomial_count p.dx * p.n) ≤ length list.old) }
-    ensures { PreparedKey (set_from p) (before public) (before work) (after list) × (take (6 * p.n) (after work) ≡ take (6 * p.n) (before work)) }
+    ensures { PreparedKey (set_from p) public.now work.old list.new × (take (6 * p.n) work.new ≡ take (6 * p.n) work.old) }
 {
     let count = monomials::monomial_count(p.dx);
     let mut i = 0;
@@ -61,7 +60,7 @@ pub fn prepare(p: Parameters, public: &[u8], work: &mut [u32], list: &mut [u32])
 // X_i + X_j, into part 6.
 fn load_sum(p: Parameters, list: &[u32], i: usize, j: usize, work: &mut [u32])
     requires { Shared (set_from p) work.old list.now × (i < monomial_count p.dx) × (j < i) }
-    ensures { after work ≡ written (6 * p.n) (tabulate p.n (λ k. pair_sum (key_in (set_from p) (before list)) i j k % p.q)) (before work) }
+    ensures { work.new ≡ written (6 * p.n) (tabulate p.n (λ k. pair_sum (key_in (set_from p) list.now) i j k % p.q)) work.old }
 {
     let n = p.n as usize;
     let spare = 6 * n;
@@ -72,7 +71,7 @@ fn load_sum(p: Parameters, list: &[u32], i: usize, j: usize, work: &mut [u32])
 // (X_i + X_j)(r_i + r_j), added to the sum. The sum of the mask's elements stands in the place of the first meanwhile.
 fn multiply_sums(p: Parameters, list: &[u32], i: usize, j: usize, work: &mut [u32])
     requires { Shared (set_from p) work.old list.now × (i < monomial_count p.dx) × (j < i) × InRing p.q p.n (sum_in (set_from p) work.old) }
-    ensures { SumGains (set_from p) (λ mask. conv p.n (pair_sum (key_in (set_from p) (before list)) i j) (pair_sum mask i j)) (before work) (after work) }
+    ensures { SumGains (set_from p) (λ mask. conv p.n (pair_sum (key_in (set_from p) list.now) i j) (pair_sum mask i j)) work.old work.new }
 {
     let n = p.n as usize;
     let at = i * n;
@@ -86,7 +85,7 @@ fn multiply_sums(p: Parameters, list: &[u32], i: usize, j: usize, work: &mut [u3
 // X_i r_j + X_j r_i, where j is before i and their monomials give the m-th.
 fn add_pair(p: Parameters, list: &[u32], i: usize, j: usize, m: usize, work: &mut [u32])
     requires { SharedAdding (set_from p) m work.old list.now × (i < monomial_count p.dx) × (j < i) }
-    ensures { SumGains (set_from p) (both_terms (set_from p) (key_in (set_from p) (before list)) m i j) (before work) (after work) }
+    ensures { SumGains (set_from p) (both_terms (set_from p) (key_in (set_from p) list.now) m i j) work.old work.new }
 {
     if !monomials::same_monomial(p.dx, i, p.dr, j, m) {
         return;
@@ -103,7 +102,7 @@ fn add_pair(p: Parameters, list: &[u32], i: usize, j: usize, m: usize, work: &mu
 // X_i r_i, where the monomial's square is the m-th.
 fn add_square(p: Parameters, list: &[u32], i: usize, m: usize, work: &mut [u32])
     requires { SharedAdding (set_from p) m work.old list.now × (i < monomial_count p.dx) }
-    ensures { SumGains (set_from p) (pair_term (set_from p) (key_in (set_from p) (before list)) m i i) (before work) (after work) }
+    ensures { SumGains (set_from p) (pair_term (set_from p) (key_in (set_from p) list.now) m i i) work.old work.new }
 {
     if !monomials::same_monomial(p.dx, i, p.dr, i, m) {
         return;
@@ -115,7 +114,7 @@ fn add_square(p: Parameters, list: &[u32], i: usize, m: usize, work: &mut [u32])
 // One monomial with itself and with each before it.
 fn add_row(p: Parameters, list: &[u32], i: usize, m: usize, work: &mut [u32])
     requires { SharedAdding (set_from p) m work.old list.now × (i < monomial_count p.dx) }
-    ensures { SumGains (set_from p) (row_of_pairs (set_from p) (key_in (set_from p) (before list)) m i) (before work) (after work) }
+    ensures { SumGains (set_from p) (row_of_pairs (set_from p) (key_in (set_from p) list.now) m i) work.old work.new }
 {
     add_square(p, list, i, m, work);
     let mut j = 0;
@@ -128,7 +127,7 @@ fn add_row(p: Parameters, list: &[u32], i: usize, m: usize, work: &mut [u32])
 // The m-th element of the product X × r becomes the sum.
 pub fn product_at(p: Parameters, list: &[u32], m: usize, work: &mut [u32])
     requires { Shared (set_from p) work.old list.now × (m < monomial_count (degree (set_from p))) }
-    ensures { SumIs (set_from p) (product_term (set_from p) (key_in (set_from p) (before list)) m) (before work) (after work) }
+    ensures { SumIs (set_from p) (product_term (set_from p) (key_in (set_from p) list.now) m) work.old work.new }
 {
     mask_products::clear_sum(p, work);
     let count = monomials::monomial_count(p.dx);
