@@ -1,8 +1,8 @@
 // roomsheet on many lines, read 7 octets at a time into buffers that hold little more than a line and an answer.
 #![tactic(auto)]
 
-fn main() {
+fn main(rt: HostRuntime) {
     let mut input = [0u8; 88];
     let mut output = [0u8; 33];
-    roomsheet_run::run(&mut input, 7, &mut output);
+    roomsheet_run::run(rt.stdin(), rt.stdout(), &mut input, 7, &mut output);
 }
