@@ -70,6 +70,7 @@ impl Parameters {
 
     pub const EDITION_MOST: u32 = 2;
 
+    #[tactic(auto, unfolding(crate::specs::Answers::set_answer, definitions::specs::Refusals::answer, definitions::specs::Refusals::first_refusal, definitions::specs::Parameters::set_tests))]
     pub fn new(set: SetNumbers) -> Checked
         ensures { checked_as result ≡ set_answer (numbers_from set) }
     {
@@ -117,6 +118,7 @@ pub fn limits(p: Parameters) -> SetLimits
 }
 
 // b: the bits of a small coefficient.
+#[tactic(auto, unfolding(definitions::specs::Parameters::small_bits))]
 pub fn bits(l: u32) -> u32
     ensures { result ≡ small_bits l }
 {

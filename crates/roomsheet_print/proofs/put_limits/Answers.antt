@@ -1,0 +1,18 @@
+-- `put_limits` meets its contract: the numbers stand one behind the other, as `limits_text` has them.
+-- Assumes nothing.
+use Rattle.std.proofs.Common.{arith}
+use Rattle.definitions.specs.Roomsheet.{limits_text}
+use Rattle.roomsheet_print.proofs.Printing.{decimal_text-le, appended_append}
+use Rattle.roomsheet_print.proofs.put_limits.Goals as goal
+
+pub put_next-b-requires : goal.put_next-b-requires
+put_next-b-requires c = omega (arith, decimal_text-le 0)
+
+pub put_next-requires : goal.put_next-requires
+put_next-requires c = omega (arith, decimal_text-le 0, decimal_text-le c.args.limits.bound)
+
+pub returns : goal.returns
+unfolding limits_text
+returns c =
+    appended_append _ _ _ _ _ _ _ _ c.put_number-a.ensures
+    (appended_append _ _ _ _ _ _ _ _ c.put_next-b.ensures c.put_next.ensures)
