@@ -11,7 +11,7 @@ loop-k-init c = writing_none (omega arith)
 pub sum-requires : goal.sum-requires
 sum-requires c =
     let ring = c.requires.in_ring in
-    (writing_own_ring c.loop-k.invariant ring.0 c.loop-k-test.true, ring.1 _ c.loop-k-test.true, c.requires.n_in_bounds.2)
+    (writing_own_ring c.loop-k.invariant ring.0 c.loop-k-test.true, ring.1 _ (omega arith), c.requires.n_in_bounds.2)
 
 pub loop-k-preserved : goal.loop-k-preserved
 loop-k-preserved c =

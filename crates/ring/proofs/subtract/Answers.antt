@@ -12,7 +12,7 @@ difference-requires c =
     let w = c.loop-k.invariant in
     let fit = c.requires.n_in_bounds in
     let ring = c.requires.in_ring in
-    (writing_own_ring w ring.0 c.loop-k-test.true, writing_apart_ring w c.args.e fit.2 ring.1 c.loop-k-test.true, fit.3)
+    (writing_own_ring w ring.0 c.loop-k-test.true, writing_apart_ring w c.args.e fit.2 ring.1 (omega arith), fit.3)
 
 pub loop-k-preserved : goal.loop-k-preserved
 loop-k-preserved c =
