@@ -2,7 +2,7 @@
 --
 --   Sizes            what a function that takes elements from octets into the eight parts of the work words asks of n, qlen and the words
 -- Assumes nothing.
-use Rattle.std.specs.Prelude.{ℕ, ◌+◌, ◌*◌, ◌≤◌, ◌<◌, ◌≡◌, List, length}
+use Rattle.std.specs.Prelude.{ℕ, ◌*◌, ◌≤◌, ◌<◌, ◌≡◌, List, length}
 
 pub record Sizes (n qlen : ℕ) (work : List ℕ) : Type 0 where
   pub places : 0 < n

@@ -1,0 +1,12 @@
+-- `ring::add` meets its contract: a turn adds the two coefficients of its place, which no turn before it has written.
+-- Assumes nothing.
+use Rattle.std.proofs.Common.{◌+◌, ◌-◌, ◌%◌}
+use Rattle.ring.specs.Work.{part}
+use Rattle.ring.proofs.Work.{WritingWords}
+use Rattle.ring.proofs.add.Given as goal
+
+abbrev pub invariant-loop-k : goal.invariant-loop-k
+invariant-loop-k l = WritingWords l.c l.n (λ j. (part l.initial.work l.c j + part l.initial.work l.e j) % l.q) l.initial.work l.k l.work
+
+abbrev pub decreases-loop-k : goal.decreases-loop-k
+decreases-loop-k l = l.n - l.k
