@@ -4,7 +4,7 @@
 -- The words are named by the step that leaves them: summed (the sums of the halves), crossed (their product), lower (the product of the
 -- lower halves) and outer (that of the upper ones beside it).
 -- Assumes nothing.
-use Prim.Native.Nat.{ℕ, ◌+◌, ◌%◌, ◌≤◌, ◌<◌}
+use Prim.Native.Nat.{ℕ, ◌+◌, ◌%◌, ◌<◌}
 use native.Mathlib.Nat.{add_assoc, mod-lt}
 use native.Mathlib.Omega.{arith}
 use mathlib.Core.Path.{◌≡◌, ◌∙◌, ap}
