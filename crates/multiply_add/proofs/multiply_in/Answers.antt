@@ -1,0 +1,28 @@
+-- The three elements stand side by side when they are multiplied, and the third is copied back.
+-- Assumes nothing.
+use Rattle.std.proofs.Common.{arith}
+use mathlib.Core.Logic.{inr}
+use Rattle.definitions.proofs.Parameters.{accepted-set, modulus_positive}
+use Rattle.parameters.specs.Answers.{set_from}
+use Rattle.multiply_add.proofs.Beside.{beside, beside_rings, copied_back}
+use Rattle.multiply_add.proofs.multiply_in.Goals as goal
+
+pub multiply_add-requires-clause-n_in_bounds : goal.multiply_add-requires-clause-n_in_bounds
+multiply_add-requires-clause-n_in_bounds c =
+    let p = set_from c.args.p in
+    let set = accepted-set p c.requires.0 in
+    let room =
+    (beside p c.args.a.now c.args.b.now c.args.c.now c.args.words.now c.requires.2 c.copy_from.ensures c.copy_from-2.ensures c.copy_from-3.ensures).room in
+    (omega arith, omega arith, omega arith, set.ring_most, modulus_positive p set, omega arith, omega (arith, set.modulus-most))
+
+pub multiply_add-requires-clause-apart : goal.multiply_add-requires-clause-apart
+multiply_add-requires-clause-apart c =
+    let rings =
+    beside_rings (set_from c.args.p) c.args.a.now c.args.b.now c.args.c.now c.args.words.now c.requires.2 c.copy_from.ensures c.copy_from-2.ensures
+    c.copy_from-3.ensures c.requires.1 in
+    (inr (omega arith), inr (omega arith), rings.0, rings.1, rings.2)
+
+pub returns : goal.returns
+returns c =
+    copied_back (set_from c.args.p) c.args.a.now c.args.b.now c.args.c.now c.args.words.now c.requires.2 c.copy_from.ensures c.copy_from-2.ensures
+    c.copy_from-3.ensures c.multiply_add.new.work c.requires.1.third.sized c.multiply_add.ensures.multiplied_in_place.holds c.copy_from-4.ensures

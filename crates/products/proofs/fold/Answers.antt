@@ -1,0 +1,22 @@
+-- Each turn writes one coefficient, reduced from three below q, and all the turns write the element.
+-- Assumes nothing.
+use Rattle.std.proofs.Common.{◌+◌, ◌%◌, arith}
+use Rattle.ring.specs.Work.{part}
+use Rattle.ring.proofs.Work.{writing_none, writing_one, writing_own_ring, writing_all}
+use Rattle.products.proofs.fold.Goals as goal
+
+pub loop-k-init : goal.loop-k-init
+loop-k-init c = writing_none (omega arith)
+
+pub folded-requires : goal.folded-requires
+folded-requires c =
+    let k = c.loop-k.k in
+    (c.requires.in_ring.1 k (omega arith), c.requires.in_ring.1 (c.args.n + k) (omega arith), writing_own_ring c.loop-k.invariant c.requires.in_ring.0 (omega arith), c.requires.n_in_bounds.2)
+
+pub loop-k-preserved : goal.loop-k-preserved
+loop-k-preserved c =
+    let f = part c.args.words.now c.args.at in
+    writing_one (λ j x. (f j + f (c.args.n + j) + x) % c.args.q) c.loop-k.invariant (omega arith) c.folded.ensures
+
+pub returns : goal.returns
+returns c = writing_all c.loop-k.invariant (omega arith)
