@@ -3,16 +3,12 @@
 use borrow.Author.Tests.{lt-ltb, le-ltb}
 use Rattle.definitions.specs.Refusals.{first_refusal, answer}
 use Rattle.judging.specs.Reading.{coefficient_answer}
-use Rattle.judging.proofs.bounded.Statement.{statement}
-use Rattle.judging.proofs.bounded.Tie as tie
+use Rattle.judging.proofs.bounded.Goals as goal
 
-returns : tie.Need-returns
+pub returns-then-x-q : goal.returns-then-x-q
 unfolding coefficient_answer answer first_refusal
-returns c = rw (lt-ltb _ _ c.if1.true)
+returns-then-x-q c = rw (lt-ltb _ _ c.if-x-q.true)
 
-returns-2 : tie.Need-returns-2
+pub returns-else-x-q : goal.returns-else-x-q
 unfolding coefficient_answer answer first_refusal
-returns-2 c = rw (le-ltb _ _ c.if1.false)
-
-pub bounded_spec : {M : Type 1} → statement M
-bounded_spec = tie.close (tie.spec returns returns-2)
+returns-else-x-q c = rw (le-ltb _ _ c.if-x-q.false)
