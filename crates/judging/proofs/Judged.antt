@@ -5,7 +5,7 @@
 --   judged-fits       0 of octets: each is below q
 --   judged-refused    any other number: some is not
 -- Assumes nothing.
-use Prim.Native.Nat.{ℕ, ◌/◌, ◌<◌}
+use Prim.Native.Nat.{ℕ, ◌/◌}
 use mathlib.Core.Path.{◌≡◌, refl, sym, ap, ◌∙◌}
 use mathlib.Core.Bool.{Bool, true, false}
 use mathlib.Core.List.{List, []}
@@ -13,10 +13,9 @@ use borrow.Author.Tests.{not-false}
 use lib.Dec.{eqb, lit<}
 use lib.ListN.{length}
 use Rattle.definitions.specs.Parameters.{Parameters, qlen, elements_length}
-use Rattle.definitions.specs.Octets.{coefficient_at, decoded, coefficients_fit}
+use Rattle.definitions.specs.Octets.{decoded, coefficients_fit}
 use Rattle.definitions.specs.Calls.{decoded_elements, elements_fit}
 use Rattle.definitions.proofs.Refusals.{first_refusal_passed, first_refusal_last, first_refusal-zero}
-use Rattle.definitions.proofs.Octets.{length-decoded, get_or-decoded, coefficients_fit_true}
 use Rattle.definitions.proofs.Parameters.{Accepted, elements_length-count}
 use Rattle.judging.specs.Reading.{coefficient_number, fit_number}
 

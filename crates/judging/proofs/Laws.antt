@@ -7,6 +7,7 @@
 --   coefficients_from, part-..  several coefficients of octets; of words
 --   places-..                where the octets of several coefficients lie
 --   large-..                 the mark that a loop over several keeps: 0 where all so far fit, otherwise 1
+--   mark                     the bits that hold the mark are the mark
 --   bits-..                  the bits set in any of some words are below a power of two just where all of the words are
 -- Assumes nothing.
 use Prim.Native.Nat.{ℕ, suc, ◌+◌, ◌-◌, ◌*◌, ◌^◌, ◌≤◌, ◌<◌}
@@ -18,6 +19,9 @@ use native.Mathlib.Numerals.{add-one}
 use native.Mathlib.Decide.{dec_lt}
 use native.Mathlib.Omega.{arith}
 use lib.Dec.{ltb}
+use lib.IntN.{pos, negsuc}
+use mir.Syntax.{w32}
+use mir.Val.{sel, to_z}
 use lib.ListN.{length, get_or, take, drop, length-append, length-drop, take-append-drop, get_or-append}
 use lib.Seq.{take_all, take-suc, get_or-drop, take-add, get_or-append_seam}
 use lib.Pow.{pow_pos}
@@ -191,6 +195,13 @@ mark_of false = 1
 
 abbrev pub large_mark : ℕ → List ℕ → ℕ
 large_mark q xs = mark_of (coefficients_fit q xs)
+
+pub mark : {bits m : ℕ} → to_z w32 bits ≡ pos m → bits ≡ m
+mark {bits} {m} e = go (ltb bits (2 ^ 31)) e
+  where
+    go : (t : Bool) → sel t (pos bits) (negsuc (2 ^ 32 - suc bits)) ≡ pos m → bits ≡ m
+    go true e = cc
+    go false e = cc
 
 pub large_none : (q : ℕ) → 0 ≡ large_mark q []
 large_none q = rw (coefficients_fit_none q)
