@@ -1,0 +1,21 @@
+-- A turn writes into its own group only, and so keeps what the groups before have.
+-- Assumes nothing.
+use Rattle.std.proofs.Common.{◌+◌, ◌*◌, ◌≤◌, length, refl, ap, arith}
+use Rattle.definitions.proofs.Filling.{put_step}
+use Rattle.definitions.proofs.Octets.{place_end}
+use Rattle.unpacking.specs.Lanes.{lanes_of}
+use Rattle.unpacking.proofs.place_groups.Invariants.{Placed}
+use Rattle.unpacking.proofs.place_groups.Goals as goal
+
+pub loop-g-preserved : goal.loop-g-preserved
+unfolding lanes_of
+loop-g-preserved c =
+    let a = c.args in
+    let l = c.loop-g in
+    let room : l.g * (a.many * 8) + a.many * 8 ≤ length l.words
+    = place_end l.g (a.many * 8) c.loop-g-test.true (rw l.invariant.1 c.requires.4) in (
+      omega arith,
+      omega arith,
+      put_step (Placed a.b a.many a.octets.now) l.words (lanes_of a.b c.number.result) (a.many * 8) 4 l.g (omega arith) (omega (arith, room)) refl
+          c.place.ensures (ap (lanes_of a.b) c.number.ensures) l.invariant.2,
+    )
