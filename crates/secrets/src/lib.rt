@@ -60,6 +60,7 @@ fn unpack(p: Parameters, secret: &[u8], work: &mut [u32])
 }
 
 // Whether both elements of the secret, in the first two parts of the work words, have degree n - 1 (02, Q-3).
+#[tactic(auto, unfolding(definitions::specs::Ring::full_degree))]
 fn full_degree(p: Parameters, work: &[u32]) -> bool
     requires { (2 ≤ p.n) × (2 * p.n ≤ length work.now) }
     ensures { result ≡ (full_degree p.n (part work.now 0) && full_degree p.n (part work.now p.n)) }

@@ -3,7 +3,7 @@
 --   tested-..        what the tests after the length test leave: the answer where they pass, and what was there where one does not
 --   is-zero-..       what each return leaves
 -- Assumes nothing.
-use Prim.Native.Nat.{ℕ, zero, suc, ◌+◌, ◌-◌, ◌*◌, ◌<◌}
+use Prim.Native.Nat.{ℕ, zero, suc, ◌+◌, ◌-◌, ◌*◌}
 use mathlib.Core.Path.{◌≡◌, refl, sym, ap, ◌∙◌}
 use mathlib.Core.Bool.{Bool, true, false, cond}
 use mathlib.Core.List.{List}
@@ -14,7 +14,6 @@ use lib.ListN.{length, replicate}
 use Rattle.definitions.specs.Sequences.{every}
 use Rattle.definitions.specs.Refusals.{untouched}
 use Rattle.definitions.specs.Parameters.{Parameters, public_length}
-use Rattle.definitions.specs.Ring.{modulo}
 use Rattle.definitions.specs.Calls.{keys_exact, IsZeroExit, is_zero_at, is_zero_answer, is_zero_leaves, is_zero_exit}
 use Rattle.definitions.specs.Demand3.{AcceptedSet}
 use Rattle.definitions.proofs.Sums.{every_cong}
