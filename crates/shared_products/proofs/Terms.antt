@@ -2,7 +2,7 @@
 --
 --   element_prepared_lem what the copies of one element leave;  prepared_more: one element more stands in the list;  prepared_shared: what is asked follows from what was prepared
 --   shared_kept, shared_after   what was asked of the work words at entry still holds after a step
---   gains_no_pair, gains_both   what a pair of two places adds;  gains_square: a place with itself
+--   gains_no_pair, gains_untaken, gains_both   what a pair of two places adds;  gains_square: a place with itself
 --   gains_row        a row of pairs;  rows_product: all rows, from 0 on, are the product
 -- Assumes nothing.
 use Prim.Native.Nat.{ℕ, ◌+◌, ◌-◌, ◌*◌, ◌%◌, ◌≤◌, ◌<◌}
@@ -10,6 +10,7 @@ use native.Mathlib.Nat.{mod-lt, mul-one, mul-zero}
 use native.Mathlib.Omega.{arith}
 use native.Mathlib.Decide.{dec_lt}
 use mathlib.Core.Path.{◌≡◌, refl, sym, ◌∙◌, ap, ap₂}
+use mathlib.Core.Bool.{Bool, false, cond}
 use mathlib.Core.List.{List}
 use lib.ListN.{length, get_or, take}
 use Rattle.definitions.specs.Sequences.{sum, tabulate}
@@ -145,6 +146,12 @@ module _ {p : Parameters} {old list : List ℕ} (g : Shared p old list) (m i j :
             cong_trans (cong_pair p.n p.q (modulus_positive p (shared_set g)) (key i) (key j) (mask_in p old i) (mask_in p old j) (sum_in p old k) k)
             (cong_of_eq (rw (turned, one, mul-one, mul-one))));
       }
+
+-- the same, where the test said no
+pub gains_untaken : {p : Parameters} {old list : List ℕ} {m : ℕ} (i j : ℕ) {t : Bool} → SharedAdding p m old list
+    → cond t 1 0 ≡ same_monomial (monomial_at p.dx i) (monomial_at p.dr j) (monomial_at (degree p) m) → t ≡ false
+    → SumGains p (both_terms p (key_in p list) m i j) old old
+gains_untaken {m = m} i j g e h = gains_no_pair g.inputs m i j g.below (sym e ∙ ap (λ (u : Bool). cond u 1 0) h)
 
 pub gains_square : {p : Parameters} {old list : List ℕ} (g : Shared p old list) (m i : ℕ) {at : ℕ} {new : List ℕ} → i < monomial_count p.dx
     → same_monomial (monomial_at p.dx i) (monomial_at p.dr i) (monomial_at (degree p) m) ≡ 1 → at ≡ (monomial_count p.dx + i) * p.n
