@@ -3,7 +3,7 @@
 --   decrypted-..     what the tests after the length test leave: the message where they pass, and what was there where one does not
 --   decrypt-..       what each return leaves
 -- Assumes nothing.
-use Prim.Native.Nat.{ℕ, zero, suc, ◌+◌, ◌*◌, ◌%◌, ◌<◌}
+use Prim.Native.Nat.{ℕ, zero, suc, ◌*◌, ◌%◌, ◌<◌}
 use mathlib.Core.Path.{◌≡◌, refl, sym, ap, ◌∙◌}
 use mathlib.Core.Bool.{true, false, not}
 use mathlib.Core.List.{List, [], ◌∷◌}
@@ -23,7 +23,7 @@ use Rattle.definitions.proofs.Decryption.{tail_clear_cong, message_of_cong}
 use Rattle.ring.specs.Work.{part}
 use Rattle.definitions.proofs.Exits.{exit_length, exit_refused, exit_accepted}
 use Rattle.secrets.specs.Secrets.{ValueInputs, Valued}
-use Rattle.decryption.specs.Decrypted.{tail_tests, MessageOf, Decrypted}
+use Rattle.decryption.specs.Decrypted.{MessageOf, Decrypted}
 
 module _ (p : Parameters) (secret ciphertext : List ℕ) {refusal : ℕ} {work : List ℕ} (v : Valued p (degree p) secret ciphertext refusal work) where
   pub decrypted-refused : (old : List ℕ) → (refusal ≡ 0 → ⊥) → Decrypted p secret ciphertext refusal old old
