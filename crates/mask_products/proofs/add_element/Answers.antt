@@ -1,4 +1,4 @@
--- Each turn adds the term of one element of the mask, and all of them are what the key's element adds.
+-- `add_element`: after j turns the first j terms of the mask are added, and after the last all of them.
 -- Assumes nothing.
 use Rattle.std.proofs.Common.{arith}
 use Rattle.definitions.specs.Calls.{polynomial_from}

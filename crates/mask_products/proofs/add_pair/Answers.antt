@@ -1,4 +1,4 @@
--- The sum stays where the pair's product is another monomial, and otherwise the key's element is loaded and the product is added.
+-- `add_pair` leaves the sum where the pair's product is another monomial, and otherwise loads the key's element and adds the product.
 -- Assumes nothing.
 use Rattle.std.proofs.Common.{◌≡◌, ◌*◌, ◌∙◌, true, refl, ap, arith}
 use native.Mathlib.Nat.{mul-one}

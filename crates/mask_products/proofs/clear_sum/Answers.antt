@@ -1,4 +1,4 @@
--- The part that is lent is cleared, and no other word.
+-- `clear_sum` clears the part that it lends and no other word.
 -- Assumes nothing.
 use Rattle.std.proofs.Common.{arith}
 use Rattle.parameters.specs.Answers.{set_from}

@@ -1,4 +1,4 @@
--- The i-th element lies inside the key's octets.
+-- `load_key` is right because the i-th element lies inside the key's octets.
 -- Assumes nothing.
 use Rattle.std.proofs.Common.{arith}
 use Rattle.definitions.proofs.Parameters.{modulus_positive, modulus_word, qlen-least, qlen-most}

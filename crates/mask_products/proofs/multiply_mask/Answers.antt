@@ -1,4 +1,4 @@
--- The factors are part 6 and the mask's element in part j, and the product is added to part 7.
+-- `multiply_mask`: the factors are part 6 and the mask's element in part j, and the product is added to part 7.
 -- Assumes nothing.
 use Rattle.std.proofs.Common.{ℕ, ◌+◌, ◌%◌, ◌∙◌, refl, sym, ap, arith}
 use native.Mathlib.Nat.{add_comm}

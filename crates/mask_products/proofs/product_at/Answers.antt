@@ -1,4 +1,4 @@
--- The sum is cleared first, each turn adds the terms of one element of the key, and all of them are the product's element.
+-- `product_at`: after i turns the terms of the key's first i elements are added, to a sum that began at 0.
 -- Assumes nothing.
 use Rattle.std.proofs.Common.{◌≡◌, arith}
 use Rattle.definitions.specs.Parameters.{monomial_count}

@@ -1,4 +1,4 @@
--- After i turns the terms of the key's first i elements are added, to a sum that began at 0.
+-- After i turns the terms of the key's first i elements are added.
 -- Assumes nothing.
 use Rattle.std.proofs.Common.{◌-◌, ◌≤◌}
 use Rattle.definitions.specs.Calls.{polynomial_from}

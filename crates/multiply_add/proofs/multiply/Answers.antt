@@ -1,4 +1,4 @@
--- Each size of the array is three times the longest element that it is for.
+-- `multiply_add::multiply` is right because each size of the array is three times the longest element that it is for.
 -- Assumes nothing.
 use Rattle.std.proofs.Common.{arith}
 use Rattle.definitions.proofs.Parameters.{accepted-set}

@@ -1,4 +1,4 @@
--- The tests come in the table's order, and c is written after the last of them alone.
+-- `multiply_add::multiply_add` is right because its tests come in the table's order, and c is written after the last of them alone.
 -- Assumes nothing.
 use Rattle.std.proofs.Common.{◌≡◌, ◌∙◌, true, [], length, sym}
 use Rattle.definitions.specs.MultiplyAdd.{multiply_add_exact, words_fit, multiply_add_leaves, multiply_add_answer, multiply_add_exit}

@@ -1,4 +1,4 @@
--- The three elements stand side by side when they are multiplied, and the third is copied back.
+-- `multiply_add::multiply_in` is right because the three elements stand side by side when they are multiplied, and the third is copied back.
 -- Assumes nothing.
 use Rattle.std.proofs.Common.{arith}
 use mathlib.Core.Logic.{inr}

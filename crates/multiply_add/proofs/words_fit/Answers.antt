@@ -1,4 +1,4 @@
--- Each judge's number is 0 just where its words fit.
+-- `multiply_add::words_fit` is right because each judge's number is 0 just where its words fit.
 -- Assumes nothing.
 use mathlib.Core.Path.{ap₂}
 use mathlib.Core.Bool.{◌&&◌}

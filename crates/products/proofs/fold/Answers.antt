@@ -1,4 +1,4 @@
--- Each turn writes one coefficient, reduced from three below q, and all the turns write the element.
+-- `products::fold` meets its contract: a turn adds the two coefficients that fold to its place to the word that stands there.
 -- Assumes nothing.
 use Rattle.std.proofs.Common.{◌+◌, ◌%◌, arith}
 use Rattle.ring.specs.Work.{part}

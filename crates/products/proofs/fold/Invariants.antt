@@ -1,4 +1,4 @@
--- A turn adds the two coefficients that fold to its place to the word that stands there.
+-- After k turns the first k words of the element are written.
 -- Assumes nothing.
 use Rattle.std.proofs.Common.{◌+◌, ◌-◌, ◌%◌}
 use Rattle.ring.specs.Work.{part}

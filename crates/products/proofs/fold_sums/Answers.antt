@@ -1,4 +1,4 @@
--- Each turn writes one coefficient, reduced from two sums and one coefficient, and all the turns write the element.
+-- `products::fold_sums` meets its contract: a turn reduces the two sums that fold to its place, and adds the coefficient that stands there.
 -- Assumes nothing.
 use Rattle.std.proofs.Common.{ℕ, ◌+◌, ◌%◌, ◌∙◌, ap, get_or, arith}
 use native.Mathlib.Nat.{mod-lt, mod-add-mod}

@@ -1,4 +1,4 @@
--- A turn reduces the two sums that fold to its place, and adds the coefficient that stands there.
+-- After k turns the first k words of the element are written.
 -- Assumes nothing.
 use Rattle.std.proofs.Common.{◌+◌, ◌-◌, ◌%◌, get_or}
 use Rattle.ring.specs.Work.{part}

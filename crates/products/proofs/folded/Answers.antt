@@ -1,4 +1,4 @@
--- A sum may be reduced before a third coefficient is added.
+-- `products::folded` meets its contract: a sum may be reduced before a third coefficient is added.
 -- Assumes nothing.
 use native.Mathlib.Nat.{mod-add-mod}
 use Rattle.products.proofs.folded.Goals as goal

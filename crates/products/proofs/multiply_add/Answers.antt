@@ -1,4 +1,4 @@
--- Both ways to multiply do what the contract says.
+-- `products::multiply_add` meets its contract, since both ways to multiply do.
 -- Assumes nothing.
 use Rattle.std.proofs.Common.{◌≡◌, List, ℕ}
 use Rattle.ring.specs.Work.{product_added}

@@ -1,4 +1,4 @@
--- The factors are filled up with 0, and their product is folded.
+-- `products::multiply_in` meets its contract: the factors are filled up with 0, and their product is folded.
 -- Assumes nothing.
 use Rattle.std.proofs.Common.{◌+◌, arith}
 use Rattle.ring.specs.Work.{part}

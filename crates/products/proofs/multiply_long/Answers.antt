@@ -1,4 +1,4 @@
--- Each size of the array is six times the longest product that it is for.
+-- `products::multiply_long` meets its contract: each size of the array is six times the longest product that it is for.
 -- Assumes nothing.
 use Rattle.std.proofs.Common.{arith}
 use Rattle.products.proofs.Loading.{zeros_below}

@@ -1,4 +1,4 @@
--- The sums of the rows, folded, are the product in R_q.
+-- `products::short` meets its contract: the sums of the rows, folded, are the product in R_q.
 -- Assumes nothing.
 use Rattle.ring.specs.Work.{part}
 use Rattle.products.proofs.Folding.{sums_small, sums_added}

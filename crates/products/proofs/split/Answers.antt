@@ -1,4 +1,4 @@
--- The leaves are at most 64, since 80 × 64 is more than n, and then they are enough and no longer than they need be.
+-- `products::split` meets its contract: the leaves are doubled until n coefficients need no more than 80 in each.
 -- Assumes nothing.
 use Rattle.std.proofs.Common.{arith}
 use Rattle.products.proofs.Halvings.{leaves_twice, leaves_fit}

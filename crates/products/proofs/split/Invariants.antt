@@ -1,4 +1,4 @@
--- The leaves are doubled until n coefficients need no more than 80 in each.
+-- There are 2^levels leaves, at most 64.
 -- Assumes nothing.
 use Rattle.std.proofs.Common.{◌-◌}
 use Rattle.products.proofs.Halvings.{Leaves}
