@@ -1,13 +1,13 @@
 -- `ciphertext_length` meets its contract: it is as many elements as there are monomials of degree dX + dr.
 -- Assumes nothing.
-use Rattle.std.proofs.Common.{◌+◌, ap, ◌∙◌, arith}
+use Rattle.std.proofs.Common.{ap, ◌∙◌, arith}
 use Rattle.definitions.specs.Parameters.{elements_length, ciphertext_length}
 use Rattle.parameters.specs.Answers.{set_from}
 use Rattle.definitions.proofs.Monomials.{count_fifteen}
 use Rattle.lengths.proofs.ciphertext_length.Goals as goal
 
 pub elements_length-requires : goal.elements_length-requires
-elements_length-requires c = omega (arith, count_fifteen (c.args.p.dx + c.args.p.dr) (omega arith))
+elements_length-requires c = omega (arith, count_fifteen)
 
 pub returns : goal.returns
 unfolding ciphertext_length

@@ -16,7 +16,7 @@ pub overflow_mul-result-2 : goal.overflow_mul-result-2
 overflow_mul-result-2 c =
     let e : c.args.elements ≤ 4096 = omega arith in
     let n : c.args.p.n ≤ 4294967295 = omega arith in
-    let o : c.octets_of_coefficient.result ≤ 4 = omega (arith, qlen-most c.args.p.q) in
+    let o : c.octets_of_coefficient.result ≤ 4 = omega (arith, qlen-most) in
     record { fits = omega (arith, mul-le-mul (mul-le-mul e n) o) }
 
 pub returns : goal.returns

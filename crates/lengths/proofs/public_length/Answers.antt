@@ -7,7 +7,7 @@ use Rattle.definitions.proofs.Monomials.{count_fifteen}
 use Rattle.lengths.proofs.public_length.Goals as goal
 
 pub elements_length-requires : goal.elements_length-requires
-elements_length-requires c = omega (arith, count_fifteen c.args.p.dx (omega arith))
+elements_length-requires c = omega (arith, count_fifteen)
 
 pub returns : goal.returns
 unfolding public_length

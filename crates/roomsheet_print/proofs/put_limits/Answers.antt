@@ -6,10 +6,10 @@ use Rattle.roomsheet_print.proofs.Printing.{decimal_text-le, appended_append}
 use Rattle.roomsheet_print.proofs.put_limits.Goals as goal
 
 pub put_next-b-requires : goal.put_next-b-requires
-put_next-b-requires c = omega (arith, decimal_text-le 0)
+put_next-b-requires c = omega (arith, decimal_text-le)
 
 pub put_next-requires : goal.put_next-requires
-put_next-requires c = omega (arith, decimal_text-le 0, decimal_text-le c.args.limits.bound)
+put_next-requires c = omega (arith, decimal_text-le)
 
 pub returns : goal.returns
 unfolding limits_text
