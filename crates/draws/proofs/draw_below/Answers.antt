@@ -1,7 +1,6 @@
 -- Each group moves the run one step on, and it stops where no word or no group is left. Assumes nothing.
-use Rattle.std.proofs.Common.{refl, arith}
+use Rattle.std.proofs.Common.{refl, arith, length-set}
 use Prim.Native.Nat.{zero-le}
-use Rattle.std.proofs.Common.{length-set}
 use Rattle.draws.proofs.Runs.{going_start, going_kept, going_dropped, going_exhausted, going_complete}
 use Rattle.draws.proofs.draw_below.Goals as goal
 use Rattle.draws.proofs.draw_below.Goals.{else-coefficients-test, then-coefficients-test+then-random-at}
