@@ -147,7 +147,7 @@ module _ {p : Parameters} {old list : List ℕ} (g : Shared p old list) (m i j :
             (cong_of_eq (rw (turned, one, mul-one, mul-one))));
       }
 
--- the same, where the test said no
+-- a pair of another monomial, as the test says it: nothing is added
 pub gains_untaken : {p : Parameters} {old list : List ℕ} {m : ℕ} (i j : ℕ) {t : Bool} → SharedAdding p m old list
     → cond t 1 0 ≡ same_monomial (monomial_at p.dx i) (monomial_at p.dr j) (monomial_at (degree p) m) → t ≡ false
     → SumGains p (both_terms p (key_in p list) m i j) old old
