@@ -63,24 +63,9 @@ room c =
 pub returns-in_default-clause-drawn : goal.returns-in_default-clause-drawn
 returns-in_default-clause-drawn c = keys_ended_halves (set_from c.args.p) _ (said-exhausted _ _ c.in_default.is c.draw_halves.ensures)
 
-pub overflow_mul-start : goal.overflow_mul-start
-overflow_mul-start c =
-    let s = (goal.at.overflow_mul-start c).After-small_length in
-    record { fits = omega (arith, taken s, octets-room (set_from c.args.p) 2 c.args.random.now (secret s), c.well_formed) }
-
-pub draw_terms-requires : goal.draw_terms-requires
-draw_terms-requires c =
-    (c.requires.0, used (goal.at.draw_terms-requires c).After-small_length, c.draw_halves.auto.work ∙ c.requires.1)
-
 pub returns-in_default-draw_terms-clause-drawn : goal.returns-in_default-draw_terms-clause-drawn
 returns-in_default-draw_terms-clause-drawn c =
     keys_ended_terms (set_from c.args.p) _ (said-exhausted _ _ c.in_default-draw_terms.is c.draw_terms.ensures.drawn)
-
-pub overflow_mul-taken : goal.overflow_mul-taken
-overflow_mul-taken c = record { fits = omega (arith, room (goal.at.overflow_mul-taken c).After-octets_of_coefficient, c.well_formed) }
-
-pub overflow_add-result : goal.overflow_add-result
-overflow_add-result c = record { fits = omega (arith, room (goal.at.overflow_add-result c).After-octets_of_coefficient, c.well_formed) }
 
 pub returns-clause-drawn : goal.returns-clause-drawn
 returns-clause-drawn c =
@@ -94,3 +79,18 @@ returns-clause-ready c =
     let p = set_from c.args.p in
     key_words p c.args.random.now _ c.requires.0 (sized o) (both o)
     (sym (terms-front p (accepted-set p c.requires.0) _ (sized o)) ∙ ap (key_terms p) (sym (others o)))
+
+pub overflow_mul-start : goal.overflow_mul-start
+overflow_mul-start c =
+    let s = (goal.at.overflow_mul-start c).After-small_length in
+    record { fits = omega (arith, taken s, octets-room (set_from c.args.p) 2 c.args.random.now (secret s), c.well_formed) }
+
+pub draw_terms-requires : goal.draw_terms-requires
+draw_terms-requires c =
+    (c.requires.0, used (goal.at.draw_terms-requires c).After-small_length, c.draw_halves.auto.work ∙ c.requires.1)
+
+pub overflow_mul-taken : goal.overflow_mul-taken
+overflow_mul-taken c = record { fits = omega (arith, room (goal.at.overflow_mul-taken c).After-octets_of_coefficient, c.well_formed) }
+
+pub overflow_add-result : goal.overflow_add-result
+overflow_add-result c = record { fits = omega (arith, room (goal.at.overflow_add-result c).After-octets_of_coefficient, c.well_formed) }
