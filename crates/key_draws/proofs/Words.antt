@@ -2,6 +2,7 @@
 --
 --   terms_end-room        the words of the terms, and one element more, lie inside the work words
 --   drawn_end-first, drawn_end-second   in edition 2 one element more is drawn;  drawn_end-room: all that is drawn lies inside the work words
+--   elements_drawn       how many elements are drawn, by the edition's number
 --   terms-front          the terms stand in front of what is drawn
 --   half_drawn           a draw lent the words of a half leaves its element there;  halves_kept: both halves where they are as they were
 --   key_words            what is asked of the work words holds once all is drawn
@@ -15,6 +16,7 @@ use mathlib.Core.Bool.{Bool, true, false}
 use mathlib.Core.Logic.{⊎_elim}
 use mathlib.Core.List.{List, [], ◌∷◌}
 use lib.Dec.{eqb}
+use borrow.Author.Tests.{eq-eqb, ne_eqb}
 use lib.ListN.{length, take, drop}
 use lib.Seq.{slice}
 use borrow.Rule.Slice.PartMut.{mid_of, put_mid, mid_len}
@@ -58,6 +60,17 @@ module _ (p : Parameters) (a : Accepted p) where
   terms-front work sized =
       slice_front (p.n + p.n) (term_coefficients p) (drawn_end p) work (omega (arith, mul-le-mul_right p.n (key_elements-least p)))
       (omega (arith, drawn_end-room))
+
+-- `drawn_end` is right because edition 2 draws one element more than the terms, and the work words have room for it
+pub elements_first : (p : Parameters) → (p.edition ≡ 2 → ⊥) → key_elements p ≡ monomial_count p.dx - 1
+unfolding key_elements
+elements_first p e = rw (ne_eqb _ 2 e)
+
+pub elements_second : (p : Parameters) (n : ℕ) → p.edition ≡ 2 → key_elements p * n ≡ (monomial_count p.dx - 1) * n + n
+unfolding key_elements
+elements_second p n e = rw (eq-eqb _ 2 e) (omega (arith, ap (λ (m : ℕ). m * n) (count-suc p.dx)))
+
+pub ruleset elements_drawn = (elements_first, elements_second)
 
 -- a draw lent the words from a place on leaves its element there, and what stood before them
 pub half_drawn : (p : Parameters) (work words : List ℕ) (run : Run) (drawn : Drawn (List ℕ)) (at : ℕ) → at + p.n ≤ length work

@@ -61,6 +61,7 @@ pub fn terms_end(p: Parameters) -> usize
 }
 
 // Where the words of all that is drawn end: in edition 2 the constant's stand behind those of the terms.
+#[tactic(auto, using(crate::proofs::Words::elements_drawn))]
 fn drawn_end(p: Parameters) -> usize
     requires { AcceptedSet (set_from p) }
     ensures { (result ≡ drawn_end (set_from p)) × (result ≤ 8 * p.n) }
