@@ -1,7 +1,7 @@
 -- Why adding coefficient by coefficient adds two ciphertexts: the coefficient of t^k of element i stands at i × n + k in both.
 --
 --   SumTurn          a place, and how many octets a turn reads and writes from there on: turn_one, those of its coefficient; turn_four: four
---   addedTo-..       the start of a loop that stores the octets of each sum, a turn, and the end
+--   added_to-..       the start of a loop that stores the octets of each sum, a turn, and the end
 --   judged_test      the judge's number, compared with 0, is whether each coefficient fits
 --   exact_summands   ciphertexts of which both fit are summands;  ciphertext-count: their coefficients
 --   coefficient_sums-octets_from   the sums' octets are those of the sum of the two polynomials

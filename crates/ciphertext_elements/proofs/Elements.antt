@@ -3,7 +3,7 @@
 --   small_scaled     a small coefficient, times at most ℓ, is below q;  noise_scaled, message_scaled: those of the noise and the message
 --   scaled_requires  what adding a multiple of part 6 to the sum asks;  gains_scaled: what it leaves
 --   noise_at         the m-th noise element;  noise_room: its octets
---   constantTerm-..  the message goes to the constant's place alone
+--   constant_term-..  the message goes to the constant's place alone
 --   prepared-kept    the list goes by the mask alone;  sum_shared: a shared product is the product;  sum_element: the three, added
 -- Assumes nothing.
 use Prim.Native.Nat.{ℕ, suc, ◌+◌, ◌-◌, ◌*◌, ◌≤◌, ◌<◌}

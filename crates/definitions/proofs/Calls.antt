@@ -1,6 +1,6 @@
 -- Why a call is accepted: an accepted set leaves its first tests to the lengths, and each later test is then read as a fact.
 --
---   lengthTests-..    what the tests up to the length test give
+--   length_tests-..    what the tests up to the length test give
 --   ..Exact-told      the lengths of a call's buffers, each
 --   answer-exact      the answer where no later test applies
 --   Zero              what the zero test's yes says, a field for each test;  zero-told, zero_of: that it does

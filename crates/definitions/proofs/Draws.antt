@@ -11,7 +11,7 @@
 --   grouped-drop                the groups of what is left once some were taken;  grouped-take: and those of what was taken
 --   draws-grouped-within        the octets taken are among those given;  draws-grouped_taken: they give the same alone
 --   draws-grouped-split         further draws go on after them
---   drawsBelow-..               the laws for draws below q;  secretDraws-..: for the elements of a secret
+--   draws_below-..               the laws for draws below q;  secret_draws-..: for the elements of a secret
 --   halves_used-there, halves_used-append   the octets of u_x and u_y are among those given, and the same with more
 --   keygen_answer-append ..      an accepted call answers the same with more random octets
 -- Assumes nothing.

@@ -1,9 +1,9 @@
 -- Why a polynomial's octets read back as the polynomial: the coefficient of t^k of element i stands at i × n + k, and qlen octets hold it.
 --
 --   InRings               every coefficient of so many elements below q
---   coefficientsOf-..     the coefficients of a polynomial, end to end
+--   coefficients_of-..     the coefficients of a polynomial, end to end
 --   polynomial_in_at       the coefficient at a place of the octets
---   octetsFrom-..         the octets of a polynomial: their length, that they fit, and what they read back as
+--   octets_from-..         the octets of a polynomial: their length, that they fit, and what they read back as
 -- Assumes nothing.
 use Prim.Native.Nat.{ℕ, ◌+◌, ◌*◌, ◌/◌, ◌%◌, ◌<◌}
 use mathlib.Core.Path.{◌≡◌, sym, ap, ap₂, ◌∙◌}

@@ -36,7 +36,7 @@ RepresentsEntry p public f entry =
 
 pub record Kept (p : Parameters) (public c : List ℕ) (entry : Entry) : Type 0 where
   pub counted : 1 ≤ entry.count
-  pub well_formed_lem : WellFormed p c
+  pub well_formed : WellFormed p c
   pub tail : ZeroPastMessage p entry.places
   pub represents : RepresentsEntry p public (polynomial_from p c) entry
 
@@ -45,10 +45,10 @@ unfolding decrypted_from decrypted_element decrypted_value modulo
 kept-holds p public c entry kept =
     record {
       counted = kept.counted;
-      well_formed_lem = kept.well_formed_lem;
+      well_formed = kept.well_formed;
       tail = kept.tail;
       decrypts = λ room secret zero.
-          decrypts_to p public secret c entry.places (zero-told p public secret zero) kept.well_formed_lem kept.tail
+          decrypts_to p public secret c entry.places (zero-told p public secret zero) kept.well_formed kept.tail
           (represents_decrypts room (kept.represents secret zero));
     }
 
@@ -108,7 +108,7 @@ module _ (p : Parameters) (a : Accepted p) where
         rw (← e)
         (record {
           counted = counted;
-          well_formed_lem = octets_from_formed f below;
+          well_formed = octets_from_formed f below;
           tail = tail;
           represents = λ secret zero. represents_congruent (octets_from_congruent f below) (represents secret zero);
         })

@@ -2,7 +2,7 @@
 --
 --   AllBelow               each number of a list is below a bound
 --   number_of-octets_of ..   a number and its octets, both ways
---   coefficientAt-..       the coefficient at a place of octets put together from groups
+--   coefficient_at-..       the coefficient at a place of octets put together from groups
 --   place-.., wide_room    where the octets of a coefficient lie, and that some more follow
 --   decoded-.., encoded-.. coefficients and their octets, both ways
 --   octets_from_cong        a polynomial's octets depend on its coefficients alone

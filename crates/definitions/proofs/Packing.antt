@@ -1,10 +1,10 @@
 -- Why packing loses nothing, with the widths as variables: both lists have the same bits in the same places, and numbers of w bits are their bits.
 --
 --   binary            the number whose bits are given, bit 0 first
---   bitAt-..          the bits of a regrouped list are those of the list, and 0 past its end
+--   bit_at-..          the bits of a regrouped list are those of the list, and 0 past its end
 --   ZeroFrom          the numbers of a list are 0 from a place on
 --   regrouped-..      a list regrouped and back;  unpacked-.., packed-..: the same for small elements and messages
---   paddingClear-..   what the test of the unused bits says
+--   padding_clear-..   what the test of the unused bits says
 -- Assumes nothing.
 use Prim.Native.Nat.{ℕ, zero, suc, ◌+◌, ◌*◌, ◌/◌, ◌%◌, ◌^◌, ◌≤◌, ◌<◌}
 use mathlib.Core.Path.{◌≡◌, sym, ap, ◌∙◌}

@@ -1,9 +1,9 @@
 -- What 01 says in words of the numbers that a parameter set fixes: the headroom is the largest, the bit length is exact, qlen octets hold q.
 --
 --   headroom-..       headroom p is the largest s with s × B below q
---   smallBits-..      b bits hold exactly the numbers below ℓ
+--   small_bits-..      b bits hold exactly the numbers below ℓ
 --   Passed            the six tests that an accepted set passes;  Accepted: what they say, a field for each comparison
---   bitLength-..      q has just that many bits;  qlen-..: and just that many octets
+--   bit_length-..      q has just that many bits;  qlen-..: and just that many octets
 --   ..-degree-most    dX and dr are at most 2;  modulus-least: q is at least 36
 --   elements_length-count  the coefficients of so many elements;  small_length-room: the octets of a small element have room for its bits;
 --                    small_length-least: there is one at least

@@ -1,7 +1,7 @@
 -- Why one number answers a call: an ordered list of tests gives the first that applies, and `answer` sorts by it.
 --
 --   Numbered              each test of a list has a number above 0, as all of 01 have
---   firstRefusal-..       the first refusal of a test and the later ones, of two lists end to end
+--   first_refusal-..       the first refusal of a test and the later ones, of two lists end to end
 --   answer-..             which of its three shapes an answer has, from the two first refusals, and back
 -- Assumes nothing.
 use Prim.Native.Nat.{ℕ, zero, suc, ◌<◌}

@@ -1,6 +1,6 @@
 -- Why the printed numbers read back: a number's decimal digits, highest first, write it again, and there is no needless one.
 --
---   decimalLength-..        a number has just that many digits
+--   decimal_length-..        a number has just that many digits
 --   digits_suc              the last digits of a number, by the first of them
 --   decimal-decimal_text     the text of a number reads as the number;  is_number-decimal_text: and is a number of the grammar
 --   roomsheet_empty_line    an empty line has an answer of its own

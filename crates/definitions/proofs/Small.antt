@@ -2,7 +2,7 @@
 --
 --   small_of-below, small_of-tail   an element read from octets is in R_ℓ, and zero past the octets' unused bits;  small_drawn_small: a drawn one
 --   unpacked_element              a packed element reads back
---   secretOf-..                   a secret put together from two elements: its length, its padding, and the two read back
+--   secret_of-..                   a secret put together from two elements: its length, its padding, and the two read back
 -- Assumes nothing.
 use Prim.Native.Nat.{ℕ, ◌+◌, ◌*◌, ◌≤◌}
 use mathlib.Core.Path.{◌≡◌, ap₂, ◌∙◌}

@@ -81,7 +81,7 @@ ZeroPastMessage p places = (k : ℕ) → p.mlen ≤ k * small_bits p.l → place
 
 pub record EntryHolds (p : Parameters) (public ciphertext : List ℕ) (entry : Entry) : Type 0 where
   pub counted : 1 ≤ entry.count
-  pub well_formed_lem : WellFormed p ciphertext
+  pub well_formed : WellFormed p ciphertext
   pub tail : ZeroPastMessage p entry.places
   pub decrypts :
       entry.count * bound p < p.q → (secret : List ℕ) → ZeroOf p public secret → DecryptsTo p secret ciphertext entry.places

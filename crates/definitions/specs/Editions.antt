@@ -58,7 +58,7 @@ pub record SetRefused (p : Parameters) (k : ℕ) : Type 0 where
   pub encrypt : (public message random : List ℕ) (ciphertext_len work_len : ℕ) → encrypt_answer p public message random ciphertext_len work_len ≡ untouched k
   pub add : (a b : List ℕ) (sum_len : ℕ) → add_answer p a b sum_len ≡ untouched k
   pub decrypt : (secret ciphertext : List ℕ) (message_len work_len : ℕ) → decrypt_answer p secret ciphertext message_len work_len ≡ untouched k
-  pub multiply_add_lem : (a b c : List ℕ) → multiply_add_answer p a b c ≡ untouched k
+  pub multiply_add : (a b c : List ℕ) → multiply_add_answer p a b c ≡ untouched k
   pub from_octets : (elements : ℕ) (octets : List ℕ) (words_len : ℕ) → from_octets_answer p elements octets words_len ≡ untouched k
   pub to_octets : (elements : ℕ) (words : List ℕ) (octets_len : ℕ) → to_octets_answer p elements words octets_len ≡ untouched k
   pub packed_from : (elements : ℕ) (octets : List ℕ) (words_len : ℕ) → packed_from_answer p elements octets words_len ≡ untouched k
@@ -138,7 +138,7 @@ pub record SameAnswersOf (a b : Parameters) : Type 0 where
   pub decrypt :
       (secret ciphertext : List ℕ) (message_len work_len : ℕ) →
       decrypt_answer a secret ciphertext message_len work_len ≡ decrypt_answer b secret ciphertext message_len work_len
-  pub multiply_add_lem : (x y z : List ℕ) → multiply_add_answer a x y z ≡ multiply_add_answer b x y z
+  pub multiply_add : (x y z : List ℕ) → multiply_add_answer a x y z ≡ multiply_add_answer b x y z
   pub from_octets : (elements : ℕ) (octets : List ℕ) (words_len : ℕ) → from_octets_answer a elements octets words_len ≡ from_octets_answer b elements octets words_len
   pub to_octets : (elements : ℕ) (words : List ℕ) (octets_len : ℕ) → to_octets_answer a elements words octets_len ≡ to_octets_answer b elements words octets_len
   pub packed_from : (elements : ℕ) (octets : List ℕ) (words_len : ℕ) → packed_from_answer a elements octets words_len ≡ packed_from_answer b elements octets words_len

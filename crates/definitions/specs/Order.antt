@@ -60,7 +60,7 @@ pub record RefusalOrder : Type 0 where
       (p : Parameters) (secret ciphertext : List ℕ) (message_len work_len : ℕ) →
       InOrder (decrypt_answer p secret ciphertext message_len work_len)
       (length_tests p (decrypt_exact p (length secret) (length ciphertext) message_len work_len)) (decrypt_tests p secret ciphertext)
-  pub multiply_add_lem :
+  pub multiply_add :
       (p : Parameters) (a b c : List ℕ) →
       InOrder (multiply_add_answer p a b c) (length_tests p (multiply_add_exact p (length a) (length b) (length c))) (multiply_add_tests p a b c)
   pub from_octets :

@@ -3,7 +3,7 @@
 --   bit_length-short  a q below 2 ^ 31 has fewer than 32 bits
 --   group_from          the group at a place, reduced
 --   draws_at          so many draws below q from the octets at a place on
---   from-..          what any draws do with the group at a place;  drawsAt-..: the same of draws below q
+--   from-..          what any draws do with the group at a place;  draws_at-..: the same of draws below q
 -- Assumes nothing.
 use Prim.Native.Nat.{ℕ, suc, ◌+◌, ◌-◌, ◌*◌, ◌^◌, ◌≤◌, ◌<◌}
 use native.Mathlib.Decide.{dec_lt}

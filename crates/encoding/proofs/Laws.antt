@@ -1,7 +1,7 @@
 -- Why writing octet by octet gives a number's octets: each octet has 256 times the weight of the one before it.
 --
 --   pair-..                        the number of two words: its weight as a shift makes it, and that 64 bits hold it
---   octetsOf-..                    the octets of a number with some more; of one that stands above another; the first of them
+--   octets_of-..                    the octets of a number with some more; of one that stands above another; the first of them
 --   stored-..                      a list with some octets of a number stored from a place on; eight of them as four and four
 --   EncodedTo, encode-..           the words before a place are encoded: a turn that stores one word or two, and the loop's end
 -- Assumes nothing.

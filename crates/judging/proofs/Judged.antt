@@ -1,6 +1,6 @@
 -- Why the judge's number tells whether a key's or a ciphertext's coefficients fit: octets of the exact length are the coefficients of its elements.
 --
---   number-..         what the number tells of a test;  fitNumber-..: of a list
+--   number-..         what the number tells of a test;  fit_number-..: of a list
 --   judged            the judge's number of octets is that of the elements' coefficients
 --   judged-fits       0 of octets: each is below q
 --   judged-refused    any other number: some is not

@@ -1,7 +1,7 @@
 -- Why judging part by part gives the answer for all: a list fits just where each of its parts does.
 --
---   coefficientsFit-..       of a list and one more; of two lists end to end
---   fitNumber-..             the answers
+--   coefficients_fit-..       of a list and one more; of two lists end to end
+--   fit_number-..             the answers
 --   reading-.., readings-..  what reading a coefficient tells; several
 --   octets-.., words-..      some coefficients more that fit; 8 where some do not
 --   coefficients_from, part-..  several coefficients of octets; of words

@@ -2,7 +2,7 @@
 --
 --   ClearTo          the octets before a place have no bit set from bit `used` on
 --   clear_to_step       one octet more
---   paddingNumber-.. what the test of the unused bits answers;  -passed, -refused: and what its answer says
+--   padding_number-.. what the test of the unused bits answers;  -passed, -refused: and what its answer says
 -- Assumes nothing.
 use Prim.Native.Nat.{ℕ, ◌+◌, ◌-◌, ◌*◌, ◌/◌, ◌%◌, ◌^◌, ◌≤◌, ◌<◌}
 use mathlib.Core.Path.{◌≡◌, refl, sym, ap, ◌∙◌}

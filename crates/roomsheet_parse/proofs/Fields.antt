@@ -1,7 +1,7 @@
 -- A line of numbers, field after field.
 --
 --   numbers_fit           so many fields, each a number, by recursion: `well_formed` without the length of the line
---   numbersFit-..        the same, by the first field, whatever the count
+--   numbers_fit-..        the same, by the first field, whatever the count
 --   Progress             what holds after i fields;  progress-..: where it begins, after a field, and at each way out
 -- Assumes nothing.
 use Prim.Native.Nat.{ℕ, zero, suc, ◌+◌, ◌-◌, ◌≤◌, ◌<◌}

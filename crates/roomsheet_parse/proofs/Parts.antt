@@ -1,7 +1,7 @@
 -- How a text falls into parts at its separators: by its first part, part after part.
 --
 --   up_to_hit, up_to_miss      the first part of a text whose first octet is the separator, or is not
---   upTo-drop-..             the same at a place of a list
+--   up_to-drop-..             the same at a place of a list
 --   up_to-append, past-append a front without separators stays in the first part
 --   take-up_to, past-drop     the first part and the octets after it, by their length
 --   up_to-past                both, with the separator between
