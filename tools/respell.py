@@ -1,7 +1,7 @@
 #!/usr/bin/env python3
 """Brings the repository's own names in .antt files, clauses and edits to the spelling of today's Rattle.
 
-usage: tools/respell.py            in the repository, once, right after /opt/rattle/port/port.py
+usage: tools/respell.py            in the repository, once, right after the toolchain's port.py
        tools/respell.py --list     prints each name with its new spelling, and writes nothing
 
 Words that begin in lower case go to snake case (`keygenAnswer` is `keygen_answer`). A dash stays where it joins two names
