@@ -2,14 +2,14 @@
 --
 --   small_scaled     a small coefficient, times at most ℓ, is below q;  noise_scaled, message_scaled: those of the noise and the message
 --   scaled_requires  what adding a multiple of part 6 to the sum asks;  gains_scaled: what it leaves
---   noise_at         the m-th noise element;  noise_room: its octets
+--   noise_at         the m-th noise element
 --   constant_term-..  the message goes to the constant's place alone
---   prepared-kept    the list goes by the mask alone;  sum_shared: a shared product is the product;  sum_element: the three, added
+--   sum_shared       a shared product is the product;  sum_element: the three, added
 -- Assumes nothing.
 use Prim.Native.Nat.{ℕ, suc, ◌+◌, ◌-◌, ◌*◌, ◌≤◌, ◌<◌}
-use native.Mathlib.Nat.{le_refl, mul-le-mul, mul-le-mul_right, one-mul}
+use native.Mathlib.Nat.{le_refl, mul-le-mul, one-mul}
 use native.Mathlib.Omega.{arith}
-use mathlib.Core.Path.{◌≡◌, refl, sym, ◌∙◌, ap, subst}
+use mathlib.Core.Path.{◌≡◌, refl, sym, ◌∙◌, ap}
 use mathlib.Core.Logic.{inr}
 use mathlib.Core.List.{List}
 use borrow.Author.Tests.{eq-eqb, ne_eqb}
@@ -30,8 +30,8 @@ use Rattle.ring.specs.Work.{part, Apart, scaled_added}
 use Rattle.ring.proofs.Work.{Wrote, wrote}
 use Rattle.mask_products.specs.Products.{sum_in, product_term, SumIs, SumGains}
 use Rattle.mask_products.proofs.Sums.{sum_cong, sum_then, sum_gains, gains_spare}
-use Rattle.shared_products.specs.Sharing.{key_in, Prepared, PreparedKey}
-use Rattle.ciphertext_elements.specs.Elements.{encrypted_sum, Encrypting}
+use Rattle.shared_products.specs.Sharing.{key_in, PreparedKey}
+use Rattle.ciphertext_elements.specs.Elements.{encrypted_sum}
 use Rattle.ciphertext_elements.proofs.Ciphertext.{product_cong}
 
 module _ (p : Parameters) (a : Accepted p) where
@@ -90,12 +90,6 @@ pub noise_at : (p : Parameters) (noise : List ℕ) (m : ℕ) {small : ℕ} (k : 
 unfolding noise_of
 noise_at p noise m k e = ap (λ (s : ℕ). get_or (noise_drawn p (drop (m * s) noise)) k 0) e
 
-pub noise_room : {p : Parameters} {public noise work : List ℕ} → Encrypting p public noise work → {m : ℕ} → m < monomial_count (degree p)
-    → m * small_length p + small_length p ≤ length noise
-noise_room {p} g {m} l =
-    let more : suc m * small_length p ≤ monomial_count (degree p) * small_length p = mul-le-mul_right (small_length p) l in
-    omega (arith, g.room)
-
 -- ---- the message goes to the constant's place alone
 pub constant_term_last : (p : Parameters) (message : List ℕ) (m k : ℕ) → m + 1 ≡ monomial_count (degree p)
     → 1 * element_of (unpacked (small_bits p.l) p.n message) k ≡ constant_term (degree p) (small_of p message) m k
@@ -107,15 +101,6 @@ unfolding constant_term
 constant_term-other d m a k h = rw (ne_eqb (suc m) (monomial_count d) (λ e. h (omega arith)))
 
 -- ---- all three
-pub prepared-kept : {p : Parameters} {public work new list : List ℕ} → PreparedKey p public work list → take (6 * p.n) new ≡ take (6 * p.n) work
-    → PreparedKey p public new list
-prepared-kept {p} {public} {list = list} r same =
-    record {
-      one-degree = r.one-degree;
-      room = r.room;
-      prepared = subst (λ (w : List ℕ). Prepared p (monomial_count p.dx) (polynomial_from p public) (λ j k. get_or w (j * p.n + k) 0) list) (sym same) r.prepared;
-    }
-
 pub sum_shared : {p : Parameters} {public work list : List ℕ} (m : ℕ) {new : List ℕ} → PreparedKey p public work list
     → SumIs p (product_term p (key_in p list) m) work new → SumIs p (product_term p (polynomial_from p public) m) work new
 sum_shared {p} m r s = sum_cong s (λ k l. cong_of_eq (product_cong p.n p.dx p.dr r.prepared.elements (λ i h j b. refl) m k))

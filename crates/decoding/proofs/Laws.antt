@@ -1,21 +1,18 @@
 -- Why reading octet by octet gives a number: each octet has 256 times the weight of the one before it.
 --
 --   number_of-append      the number of octets with more behind them;  number_of-take: of a part of a list, as a sum over its places
---   number_of_four        the number of the first of four octets;  octets_weight_pos: 256^len as a shift makes it is not 0
---   DecodedTo, decode-.. the words before a place are decoded: a turn of a loop that stores one word more, and where it reads
+--   number_of_four        the number of the first of four octets
 -- Assumes nothing.
 use Prim.Native.Nat.{ℕ, zero, suc, ◌+◌, ◌*◌, ◌%◌, ◌^◌, ◌≤◌, ◌<◌}
 use mathlib.Core.Path.{◌≡◌, sym, ap, ◌∙◌}
 use mathlib.Core.List.{List, [], ◌∷◌, ◌++◌}
 use native.Mathlib.Nat.{add-zero, pow-suc, add-mul-mod_self_left, mod-eq_of_lt}
 use native.Mathlib.Omega.{arith}
-use lib.ListN.{length, get_or, take, drop, set, length-set, length-drop, take-append-drop}
+use lib.ListN.{length, get_or, take, drop, length-drop, take-append-drop}
 use lib.Seq.{take-take, take-suc, get_or-drop, length-take-le}
 use Rattle.definitions.specs.Sequences.{sum}
-use Rattle.definitions.specs.Octets.{number_of, coefficient_at, decoded}
-use Rattle.definitions.proofs.Filling.{fill_step}
+use Rattle.definitions.specs.Octets.{number_of}
 use Rattle.definitions.proofs.Octets.{AllBelow, below-take, below-drop, number_of-below}
-use Rattle.definitions.proofs.Powers.{shl_octets, weight_pos}
 
 number_of-append : (xs ys : List ℕ) → number_of (xs ++ ys) ≡ number_of xs + 256 ^ length xs * number_of ys
 unfolding number_of
@@ -57,19 +54,3 @@ number_of_four len at l below few h =
     let full : length (take 4 (drop at l)) ≡ 4 = length-take-le 4 (drop at l) (omega (arith, length-drop at l)) in
     rw (← take-take len 4 (drop at l) few)
     (number_of-front len (take 4 (drop at l)) (below-take 256 4 (drop at l) (below-drop 256 at l below)) (omega arith))
-
-pub octets_weight_pos : (len : ℕ) → len ≤ 3 → 0 < 1 * 2 ^ (8 * len) % 4294967296
-octets_weight_pos len h = rw (shl_octets len 32 (omega arith)) (weight_pos len)
-
--- ---- the loops
-
--- the words before place m are the coefficients of the octets
-abbrev pub DecodedTo : ℕ → List ℕ → ℕ → List ℕ → ℕ → Type 0
-DecodedTo qlen octets count words m = (m ≤ length words) × (length words ≡ count) × (take m words ≡ decoded qlen m octets)
-
-pub decode_step : (qlen : ℕ) (octets words : List ℕ) (m : ℕ) {count x : ℕ} → m < length words → x ≡ number_of (take qlen (drop (m * qlen) octets))
-    → DecodedTo qlen octets count words m → DecodedTo qlen octets count (set words m x) (m + 1)
-unfolding decoded coefficient_at
-decode_step qlen octets words m {x = x} inside value before =
-    let kept : length (set words m x) ≡ length words = length-set words m x in
-    (omega arith, omega arith, fill_step (coefficient_at qlen octets) words m inside value before.2)

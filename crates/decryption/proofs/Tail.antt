@@ -6,7 +6,7 @@
 -- Assumes nothing.
 use Prim.Native.Nat.{ℕ, suc, ◌+◌, ◌-◌, ◌*◌, ◌/◌, ◌^◌, ◌≤◌, ◌<◌}
 use mathlib.Core.Path.{◌≡◌, refl, sym, ap, ◌∙◌, subst}
-use mathlib.Core.Bool.{Bool, true, false, cond, not, ◌||◌}
+use mathlib.Core.Bool.{Bool, true, false, not, ◌||◌}
 use mathlib.Core.List.{List, []}
 use native.Mathlib.Nat.{mul-le-mul_right, mod-lt}
 use native.Mathlib.Decide.{dec_lt}
@@ -54,14 +54,6 @@ tail-every n b t mlen m pos e =
               (subst (λ (i : ℕ). eqb (m i) 0 ≡ true) place (every_at (n - t) (λ j. eqb (m (t + j)) 0) h {k = k - t} (omega arith)))
         ]
 
-cond_none : (t : Bool) {x : ℕ} → x ≡ cond t 1 0 → x ≡ 0 → t ≡ false
-cond_none false e z = refl
-cond_none true e z = let n : ⊥ = omega arith in absurd n
-
-cond-one : (t : Bool) {x : ℕ} → x ≡ cond t 1 0 → (x ≡ 0 → ⊥) → t ≡ true
-cond-one true e h = refl
-cond-one false e h = absurd (h e)
-
 module _ (p : Parameters) (set : Accepted p) (work : List ℕ) (room : length work ≡ work_length p) where
   abbrev pub at : ℕ
   at = 2 * p.n
@@ -102,21 +94,21 @@ module _ (p : Parameters) (set : Accepted p) (work : List ℕ) (room : length wo
         ap (λ (x : ℕ). eqb x 0) (ap (λ (i : ℕ). get_or new i 0) place ∙ reduced_at (t + k) (omega arith)))
         ∙ tail-every p.n (small_bits p.l) t p.mlen m (small_bits-least p set.range) bits
 
-    module _ {answer : ℕ} (told : answer ≡ cond (every (at + p.n - (at + p.mlen / b)) (λ k. eqb (part new (at + p.mlen / b) k) 0)) 1 0) where
-      pub message-tail : (old : List ℕ) → answer ≡ 0 → MessageOf p m 10 old old
+    module _ {clear : Bool} (told : clear ≡ every (at + p.n - (at + p.mlen / b)) (λ k. eqb (part new (at + p.mlen / b) k) 0)) where
+      pub message-tail : (old : List ℕ) → clear ≡ false → MessageOf p m 10 old old
       message-tail old z =
           record {
-            number = sym (first_refusal_applies 10 (not (tail_clear p m)) [] (ap not (sym reduced_tail ∙ cond_none _ told z)));
+            number = sym (first_refusal_applies 10 (not (tail_clear p m)) [] (ap not (sym reduced_tail ∙ sym told ∙ z)));
             written = λ n. let never : ⊥ = omega arith in absurd never;
             kept = λ _. refl;
           }
 
-      pub message-written : (old : List ℕ) {message : List ℕ} → (answer ≡ 0 → ⊥) → length old ≡ message_length p
+      pub message-written : (old : List ℕ) {message : List ℕ} → clear ≡ true → length old ≡ message_length p
           → message ≡ packed b (length old) (take (at + p.n - at) (drop at new)) → MessageOf p m 0 old message
       unfolding message_of
       message-written old h exact packs =
           record {
-            number = sym (first_refusal_last 10 (not (tail_clear p m)) (ap not (sym reduced_tail ∙ cond-one _ told h)));
+            number = sym (first_refusal_last 10 (not (tail_clear p m)) (ap not (sym reduced_tail ∙ sym told ∙ h)));
             written = λ _. packs ∙ rw (reduced_words, exact, e);
             kept = λ n. absurd (n refl);
           }

@@ -10,13 +10,14 @@ ghost use Rattle.definitions.specs.Sequences.{tabulate};
 ghost use Rattle.definitions.specs.Parameters.{small_bits, message_length, work_length};
 ghost use Rattle.definitions.specs.Ring.{modulo};
 ghost use Rattle.definitions.specs.Promises.{Decrypts};
-ghost use Rattle.definitions.specs.Demand3.{AcceptedSet};
 ghost use Rattle.parameters.specs.Answers.{set_from};
+ghost use Rattle.parameters.specs.Refusals.{number_in};
 ghost use Rattle.ring.specs.Work.{part, written};
 ghost use Rattle.secrets.specs.Secrets.{ValueInputs};
 ghost use Rattle.decryption.specs.Decrypted.{MessageOf, Decrypted};
 
-use parameters::{Parameters, refusals};
+use parameters::Parameters;
+use parameters::refusals::Refusal;
 
 // Each word of a part modulo l, a power of two.
 fn reduce(work: &mut [u32], at: usize, n: usize, l: u32)
@@ -24,29 +25,27 @@ fn reduce(work: &mut [u32], at: usize, n: usize, l: u32)
     ensures { work.new ≡ written at (tabulate n (λ k. part work.old at k % l)) work.old }
 {
     let mask = l - 1;
-    let mut k = 0;
-    while k < n {
+    for k in 0..n {
         work[at + k] = work[at + k] & mask;
-        k += 1;
     }
 }
 
 // The message of the element in the third part, modulo l, unless the tail is not zero.
-fn write_message(p: Parameters, message: &mut [u8], work: &mut [u32]) -> u32
-    requires { AcceptedSet (set_from p) × (length message.old ≡ message_length (set_from p)) × (length work.old ≡ work_length (set_from p)) }
-    ensures { MessageOf (set_from p) (modulo p.l (part work.old (2 * p.n))) result message.old message.new }
+fn write_message(p: Parameters, message: &mut [u8], work: &mut [u32]) -> Result<(), Refusal>
+    requires { (length message.old ≡ message_length (set_from p)) × (length work.old ≡ work_length (set_from p)) }
+    ensures { MessageOf (set_from p) (modulo p.set.l (part work.old (2 * p.set.n))) (number_in result) message.old message.new }
 {
-    let n = p.n as usize;
+    let n = p.set.n as usize;
     let at = 2 * n;
     let end = at + n;
-    reduce(work, at, n, p.l);
-    let b = parameters::bits(p.l);
-    let tail = at + ((p.mlen / b) as usize);
-    if ring::vanishes(work, tail, end) == 0 {
-        return refusals::TAIL;
+    reduce(work, at, n, p.set.l);
+    let b = parameters::bits(p.set.l);
+    let tail = at + ((p.set.mlen / b) as usize);
+    if !ring::vanishes(work, tail, end) {
+        return Err(Refusal::Tail);
     }
     packing::pack(&work[at..end], b, message);
-    0
+    Ok(())
 }
 
 // Decryption, after the length test; the work words are left as they come.
@@ -56,15 +55,12 @@ fn decrypted(
     ciphertext: &[u8],
     message: &mut [u8],
     work: &mut [u32],
-) -> u32
-    requires { ValueInputs (set_from p) (p.dx + p.dr) secret.now ciphertext.now work.old × (length message.old ≡ message_length (set_from p)) }
-    ensures { Decrypted (set_from p) secret.now ciphertext.now result message.old message.new }
+) -> Result<(), Refusal>
+    requires { ValueInputs (set_from p) (p.set.dx + p.set.dr) secret.now ciphertext.now work.old × (length message.old ≡ message_length (set_from p)) }
+    ensures { Decrypted (set_from p) secret.now ciphertext.now (number_in result) message.old message.new }
 {
-    let d = (p.dx + p.dr) as usize;
-    let refused = secrets::value(p, d, secret, ciphertext, work);
-    if refused != 0 {
-        return refused;
-    }
+    let d = (p.set.dx + p.set.dr) as usize;
+    secrets::value(p, d, secret, ciphertext, work)?;
     write_message(p, message, work)
 }
 
@@ -74,13 +70,12 @@ pub fn decrypt(
     ciphertext: &[u8],
     message: &mut [u8],
     work: &mut [u32],
-) -> u32
-    requires { AcceptedSet (set_from p) }
-    ensures { Decrypts (set_from p) secret ciphertext message work result }
+) -> Result<(), Refusal>
+    ensures { Decrypts (set_from p) secret ciphertext message work (number_in result) }
 {
     if !lengths::decrypt_exact(p, secret.len(), ciphertext.len(), message.len(), work.len()) {
-        return refusals::LENGTH;
+        return Err(Refusal::Length);
     }
-    let number = decrypted(p, secret, ciphertext, message, work);
-    ring::cleared(work, number)
+    let outcome = decrypted(p, secret, ciphertext, message, work);
+    ring::cleared(work, outcome)
 }

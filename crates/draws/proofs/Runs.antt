@@ -20,8 +20,10 @@ use Rattle.definitions.specs.Octets.{number_of}
 use Rattle.definitions.specs.Draws.{Drawn, keep, discard, draws, draws_below}
 use Rattle.definitions.proofs.Parameters.{qlen-least, qlen-most}
 use Rattle.draws.proofs.Groups.{group_from, draws_at, draws_at_kept, draws_at_dropped, draws_at_ended}
+use Rattle.std.specs.Prelude.{Result, Ok, Err}
+use Rattle.parameters.specs.declared.refusals.Refusal.{Refusal}
+use Rattle.parameters.specs.Refusals.{refusal_number}
 use Rattle.draws.specs.declared.Run.{Run}
-use Rattle.draws.specs.declared.Run.TheVariants.{Complete, Exhausted}
 use Rattle.draws.specs.Runs.{said, drawn_answer}
 
 abbrev pub onward : {A : Type 0} → List A → ℕ → ℕ → Drawn A → Drawn A
@@ -135,17 +137,19 @@ unfolding answer first_refusal
 complete_told true d e h = cc
 complete_told false d e h = cc
 
-exhausted-told : {A : Type 0} (enough : Bool) (d : Drawn A) → refused 9 ≡ answer [] (refuse 9 (not enough) ∷ []) d → enough ≡ false
+exhausted_told : {A : Type 0} (enough : Bool) (d : Drawn A) (k : ℕ) → refused k ≡ answer [] (refuse 9 (not enough) ∷ []) d → (k ≡ 9) × (enough ≡ false)
 unfolding answer first_refusal
-exhausted-told true d h = cc
-exhausted-told false d h = refl
+exhausted_told true d k h = cc
+exhausted_told false d k h = (cc, refl)
 
-pub said_complete : {A : Type 0} (d : Drawn A) (values : List A) {run : Run} {groups dropped : ℕ} → run ≡ Complete groups dropped → said run values ≡ drawn_answer d
-    → d ≡ record { values = values; groups = groups; dropped = dropped; enough = true }
+pub said_complete : {A : Type 0} (d : Drawn A) (values : List A) {outcome : Result Run Refusal} {run : Run} → outcome ≡ Ok run
+    → said outcome values ≡ drawn_answer d → d ≡ record { values = values; groups = run.groups; dropped = run.dropped; enough = true }
 unfolding drawn_answer
-said_complete d values {groups = groups} {dropped} e told =
-    complete_told d.enough d (record { values = values; groups = groups; dropped = dropped; enough = true }) (rw e at told)
+said_complete d values {run = run} e told =
+    complete_told d.enough d (record { values = values; groups = run.groups; dropped = run.dropped; enough = true }) (rw e at told)
 
-pub said-exhausted : {A : Type 0} (d : Drawn A) (values : List A) {run : Run} → run ≡ Exhausted → said run values ≡ drawn_answer d → d.enough ≡ false
+-- a refusal is 9, and its run had not enough
+pub said-exhausted : {A : Type 0} (d : Drawn A) (values : List A) {outcome : Result Run Refusal} {refusal : Refusal} → outcome ≡ Err refusal
+    → said outcome values ≡ drawn_answer d → (refusal_number refusal ≡ 9) × (d.enough ≡ false)
 unfolding drawn_answer
-said-exhausted d values e told = exhausted-told d.enough d (rw e at told)
+said-exhausted d values {refusal = refusal} e told = exhausted_told d.enough d (refusal_number refusal) (rw e at told)

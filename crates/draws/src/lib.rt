@@ -4,17 +4,18 @@
 
 ghost use Rattle.std.specs.Prelude.{◌≡◌, ◌∷◌, [], ◌+◌, ◌-◌, ◌≤◌, ◌<◌, ◌^◌, length, take, drop};
 ghost use Rattle.definitions.specs.Parameters.{bit_length, small_length};
-ghost use Rattle.parameters.specs.Answers.{set_from};
+ghost use Rattle.parameters.specs.Numbers.{numbers_from};
 ghost use Rattle.definitions.specs.Draws.{draws_below, small_drawn, secret_draws, noise_drawn};
 ghost use Rattle.draws.specs.Runs.{said, drawn_answer};
 
-use parameters::Parameters;
+use parameters::SetNumbers;
+use parameters::refusals::Refusal;
 
-// What a run of draws answers: the groups that it took and how many of them it dropped, or that the octets ended.
+// A run of draws: the groups that it took, and how many of them it dropped.
 #[derive(Clone, Copy)]
-pub enum Run {
-    Complete(usize, usize),
-    Exhausted,
+pub struct Run {
+    pub groups: usize,
+    pub dropped: usize,
 }
 
 // As many ones as q has bits: a number and this is the number modulo 2 to the bit length of q.
@@ -27,7 +28,7 @@ fn group_mask(q: u32) -> u32
 
 // As many draws below q as there are words, from the octets at a place on: a group of q or more is dropped and the next is taken. With one
 // word it is a single draw. Where the octets end first, the words may hold anything.
-pub fn draw_below(random: &[u8], start: usize, q: u32, words: &mut [u32]) -> Run
+pub fn draw_below(random: &[u8], start: usize, q: u32, words: &mut [u32]) -> Result<Run, Refusal>
     requires { (start ≤ length random.now) × (0 < q) × (q < 2 ^ 31) }
     ensures { said result words.new ≡ drawn_answer (draws_below q (length words.old) (drop start random.now)) }
 {
@@ -36,6 +37,7 @@ pub fn draw_below(random: &[u8], start: usize, q: u32, words: &mut [u32]) -> Run
     let mut at = start;
     let mut groups: usize = 0;
     let mut dropped: usize = 0;
+    // kept as a while: i tells afterwards whether the octets ended
     let mut i: usize = 0;
     'coefficients: while i < words.len() {
         let value = loop {
@@ -54,47 +56,50 @@ pub fn draw_below(random: &[u8], start: usize, q: u32, words: &mut [u32]) -> Run
         i += 1;
     }
     if i < words.len() {
-        return Run::Exhausted;
+        return Err(Refusal::Exhausted);
     }
-    Run::Complete(groups, dropped)
+    Ok(Run { groups, dropped })
 }
 
 // A small element packed in the octets at a place on.
-fn draw_small(random: &[u8], at: usize, p: Parameters, words: &mut [u32])
-    requires { (at + small_length (set_from p) ≤ length random.now) × (length words.old ≡ p.n) }
-    ensures { words.new ≡ small_drawn (set_from p) (take (small_length (set_from p)) (drop at random.now)) }
+fn draw_small(random: &[u8], at: usize, set: SetNumbers, words: &mut [u32])
+    requires { (at + small_length (numbers_from set) ≤ length random.now) × (length words.old ≡ set.n) }
+    ensures { words.new ≡ small_drawn (numbers_from set) (take (small_length (numbers_from set)) (drop at random.now)) }
 {
-    let end = at + lengths::small_length(p);
-    unpacking::unpack(&random[at..end], parameters::bits(p.l), words);
+    let end = at + lengths::small_length(set);
+    unpacking::unpack(&random[at..end], parameters::bits(set.l), words);
 }
 
 // A single draw of an element of a secret, from the octets at a place on: one whose coefficient of t^(n - 1) is zero is dropped whole and the
 // next octets are taken. Where the octets end first, the words may hold anything.
-pub fn draw_secret(random: &[u8], start: usize, p: Parameters, words: &mut [u32]) -> Run
-    requires { (start ≤ length random.now) × (0 < p.n) × (0 < small_length (set_from p)) × (length words.old ≡ p.n) }
-    ensures { said result (words.new ∷ []) ≡ drawn_answer (secret_draws (set_from p) 1 (drop start random.now)) }
+pub fn draw_secret(
+    random: &[u8],
+    start: usize,
+    set: SetNumbers,
+    words: &mut [u32],
+) -> Result<Run, Refusal>
+    requires { (start ≤ length random.now) × (0 < set.n) × (0 < small_length (numbers_from set)) × (length words.old ≡ set.n) }
+    ensures { said result (words.new ∷ []) ≡ drawn_answer (secret_draws (numbers_from set) 1 (drop start random.now)) }
 {
-    let one = lengths::small_length(p);
-    let top = (p.n - 1) as usize;
-    let mut at = start;
-    let mut elements: usize = 0;
-    let mut dropped_elements: usize = 0;
-    while one <= random.len() - at {
-        draw_small(random, at, p, words);
-        at += one;
-        elements += 1;
+    let one = lengths::small_length(set);
+    let top = (set.n - 1) as usize;
+    for k in 0..(random.len() - start) / one {
+        draw_small(random, start + k * one, set, words);
         if words[top] != 0 {
-            return Run::Complete(elements, dropped_elements);
+            return Ok(Run {
+                groups: k + 1,
+                dropped: k,
+            });
         }
-        dropped_elements += 1;
     }
-    Run::Exhausted
+    Err(Refusal::Exhausted)
 }
 
 // The draw of a noise element.
-pub fn draw_noise(random: &[u8], at: usize, p: Parameters, words: &mut [u32])
-    requires { (at + small_length (set_from p) ≤ length random.now) × (length words.old ≡ p.n) }
-    ensures { words.new ≡ noise_drawn (set_from p) (drop at random.now) }
+#[tactic(auto, unfolding(definitions::specs::Draws::noise_drawn))]
+pub fn draw_noise(random: &[u8], at: usize, set: SetNumbers, words: &mut [u32])
+    requires { (at + small_length (numbers_from set) ≤ length random.now) × (length words.old ≡ set.n) }
+    ensures { words.new ≡ noise_drawn (numbers_from set) (drop at random.now) }
 {
-    draw_small(random, at, p, words);
+    draw_small(random, at, set, words);
 }

@@ -16,20 +16,21 @@ use mathlib.Core.Path.{◌≡◌, sym, ◌∙◌, ap}
 use mathlib.Core.Bool.{true}
 use mathlib.Core.List.{List}
 use lib.Arith.{digits_lt}
+use Rattle.std.specs.Prelude.{Result, Ok}
 use lib.ListN.{length, get_or, take, drop, length-take, length-drop}
 use lib.Seq.{take_at, take_all, get_or-take}
 use borrow.Rule.Slice.PartMut.{put_mid}
-use Rattle.definitions.specs.Parameters.{Parameters, degree, small_bits, qlen, monomial_count, small_length}
+use Rattle.definitions.specs.Parameters.{Parameters, degree, small_bits, qlen, monomial_count, small_length, public_length, work_length}
 use Rattle.definitions.specs.Monomials.{polynomial_of}
 use Rattle.definitions.specs.Draws.{Drawn, draws_below}
-use Rattle.definitions.specs.Calls.{small_of, polynomial_from, octets_from, mask_coefficients, mask_draws, noise_of, encrypted_with, mask_used, encrypt_used}
+use Rattle.definitions.specs.Calls.{elements_fit, small_of, polynomial_from, octets_from, mask_coefficients, mask_draws, noise_of, encrypted_with, mask_used, encrypt_used}
+use Rattle.definitions.specs.Demand3.{AcceptedSet}
 use Rattle.definitions.proofs.Parameters.{Accepted, accepted-set, mask-degree-most}
-use Rattle.definitions.proofs.Calls.{encrypt_exact-told}
 use Rattle.definitions.proofs.Octets.{octets_from_cong}
 use Rattle.definitions.proofs.Draws.{draws_below-values, draws_below-length}
 use Rattle.parameters.proofs.Bounds.{small_bits-within}
 use Rattle.draws.specs.declared.Run.{Run}
-use Rattle.draws.specs.declared.Run.TheVariants.{Complete}
+use Rattle.parameters.specs.declared.refusals.Refusal.{Refusal}
 use Rattle.draws.specs.Runs.{said, drawn_answer}
 use Rattle.draws.proofs.Groups.{draws_at_within}
 use Rattle.draws.proofs.Runs.{said_complete}
@@ -37,7 +38,6 @@ use Rattle.mask_products.specs.Products.{mask_in, KeyAndMask}
 use Rattle.definitions.proofs.Monomials.{count-six}
 use Rattle.ciphertext_elements.specs.Elements.{encrypted_from}
 use Rattle.ciphertext_elements.proofs.Ciphertext.{SameUpTo, encrypted_with_cong}
-use Rattle.encryption.specs.Steps.{EncryptJudged}
 
 pub record MaskDrawn (p : Parameters) (random : List ℕ) (start dropped : ℕ) (work : List ℕ) : Type 0 where
   pub enough : (mask_draws p random).enough ≡ true
@@ -50,27 +50,27 @@ unfolding mask_used mask_draws
 mask-within {p} {random} drawn = omega (arith, drawn.taken, draws_at_within p.q random 0 (mask_coefficients p) (omega arith))
 
 -- a run into the first parts of the work words
-pub mask_lent : (p : Parameters) (random old new : List ℕ) (run : Run) {count : ℕ} → count ≡ monomial_count p.dr → count * p.n ≤ length old
-    → length new ≡ length (take (count * p.n - 0) (drop 0 old))
-    → said run new ≡ drawn_answer (draws_below p.q (length (take (count * p.n - 0) (drop 0 old))) (drop 0 random))
-    → said run (take (mask_coefficients p) (put_mid 0 (count * p.n - 0) old new)) ≡ drawn_answer (mask_draws p random)
+pub mask_lent : (p : Parameters) (random old new : List ℕ) (outcome : Result Run Refusal) {count : ℕ} → count ≡ monomial_count p.dr → count * p.n ≤ length old
+    → length new ≡ length (take (count * p.n) old)
+    → said outcome new ≡ drawn_answer (draws_below p.q (length (take (count * p.n) old)) (drop 0 random))
+    → said outcome (take (mask_coefficients p) (put_mid 0 (count * p.n) old new)) ≡ drawn_answer (mask_draws p random)
 unfolding mask_draws
-mask_lent p random old new run {count} e room sized told =
-    let words : length (take (count * p.n - 0) (drop 0 old)) ≡ mask_coefficients p =
-    simp (length-take, length-drop) (omega (arith, ap (λ (c : ℕ). c * p.n) e)) in
-    let front : take (mask_coefficients p) (put_mid 0 (count * p.n - 0) old new) ≡ new =
-    take_at new (drop (count * p.n - 0) (drop 0 old)) (mask_coefficients p) (sized ∙ words) in
+mask_lent p random old new outcome {count} e room sized told =
+    let words : length (take (count * p.n) old) ≡ mask_coefficients p = simp length-take (omega (arith, ap (λ (c : ℕ). c * p.n) e)) in
+    let front : take (mask_coefficients p) (put_mid 0 (count * p.n) old new) ≡ new =
+    take_at new (drop (count * p.n) (drop 0 old)) (mask_coefficients p) (sized ∙ words) in
     rw front (told ∙ ap (λ (c : ℕ). drawn_answer (draws_below p.q c random)) words)
 
-pub mask-told : (p : Parameters) (random work : List ℕ) {run : Run} {groups dropped width : ℕ} → run ≡ Complete groups dropped
-    → said run (take (mask_coefficients p) work) ≡ drawn_answer (mask_draws p random) → width ≡ qlen p.q → MaskDrawn p random (width * groups) dropped work
+pub mask-told : (p : Parameters) (random work : List ℕ) {outcome : Result Run Refusal} {run : Run} {width : ℕ} → outcome ≡ Ok run
+    → said outcome (take (mask_coefficients p) work) ≡ drawn_answer (mask_draws p random) → width ≡ qlen p.q
+    → MaskDrawn p random (width * run.groups) run.dropped work
 unfolding mask_used
-mask-told p random work {groups = groups} e told w =
+mask-told p random work {run = run} e told w =
     let d = said_complete (mask_draws p random) (take (mask_coefficients p) work) e told in
     record {
       enough = ap (λ (x : Drawn ℕ). x.enough) d;
       values = sym (ap (λ (x : Drawn ℕ). x.values) d);
-      taken = ap (λ (x : ℕ). x * groups) w ∙ sym (ap (λ (x : Drawn ℕ). qlen p.q * x.groups) d);
+      taken = ap (λ (x : ℕ). x * run.groups) w ∙ sym (ap (λ (x : Drawn ℕ). qlen p.q * x.groups) d);
       counted = sym (ap (λ (x : Drawn ℕ). x.dropped) d);
     }
 
@@ -83,22 +83,21 @@ mask-same p work values low e j l k b =
     ∙ sym (get_or-take (mask_coefficients p) work (j * p.n + k) 0 (digits_lt l b))
     ∙ ap (λ (w : List ℕ). get_or w (j * p.n + k) 0) e
 
-module _ {p : Parameters} {public message random ciphertext old work : List ℕ} {start dropped : ℕ} (judged : EncryptJudged p public message ciphertext old)
-    (drawn : MaskDrawn p random start dropped work)
+module _ {p : Parameters} {random work : List ℕ} {start dropped : ℕ} (accepted : AcceptedSet p) (drawn : MaskDrawn p random start dropped work)
   where
     set : Accepted p
-    set = accepted-set p judged.set
+    set = accepted-set p accepted
 
-    pub drawn_inputs : length work ≡ length old → KeyAndMask p public work
+    pub drawn_inputs : {public : List ℕ} → length public ≡ public_length p → elements_fit p (monomial_count p.dx) public ≡ true → length work ≡ work_length p
+        → KeyAndMask p public work
     unfolding mask_draws polynomial_of
-    drawn_inputs long =
-        let lengths = encrypt_exact-told p judged.exact in
+    drawn_inputs public-exact fits work-exact =
         let run = draws_below p.q (mask_coefficients p) random in
         record {
-          set = judged.set;
-          public-exact = lengths.0;
-          fits = judged.fits;
-          work-exact = long ∙ lengths.3;
+          set = accepted;
+          public-exact = public-exact;
+          fits = fits;
+          work-exact = work-exact;
           mask = λ j l k b.
               rw (mask-same p work run.values (mask-degree-most p set) drawn.values j l k b)
               (draws_below-values p.q (mask_coefficients p) random (j * p.n + k)
@@ -111,11 +110,11 @@ module _ {p : Parameters} {public message random ciphertext old work : List ℕ}
     used-counted e f = rw (e, f) (ap (λ (x : ℕ). x + monomial_count (degree p) * small_length p) drawn.taken)
 
     -- the ciphertext of the definitions, from the mask in the work words
-    pub ciphertext-same : (noise : List ℕ) → noise ≡ drop start random
+    pub ciphertext-same : (public message noise : List ℕ) → noise ≡ drop start random
         → encrypted_from p public message noise work
         ≡ octets_from p (degree p)
         (encrypted_with p (polynomial_from p public) (small_of p message) (polynomial_of p.n (mask_draws p random).values) (noise_of p (drop (mask_used p random) random)))
-    ciphertext-same noise e =
+    ciphertext-same public message noise e =
         rw (e, ← drawn.taken)
         (octets_from_cong p (degree p) (λ i l k b.
         encrypted_with_cong p (polynomial_from p public) (small_of p message) (noise_of p (drop start random)) (mask-same p work _ (mask-degree-most p set) drawn.values) i k))

@@ -1,15 +1,20 @@
--- What encryption's functions hand to one another.
+-- What encryption leaves before its work words are cleared.
 --
---   EncryptJudged    the set is accepted, every length is exact, the message's unused bits are zero and the key's coefficients are below q
+--   EncryptsOnceCleared   the definitions' Encrypts holds as soon as every work word is 0
 -- Assumes nothing.
-use Rattle.std.specs.Prelude.{ℕ, ◌≡◌, true, List, length}
-use Rattle.definitions.specs.Parameters.{Parameters, monomial_count}
-use Rattle.definitions.specs.Octets.{padding_clear}
-use Rattle.definitions.specs.Calls.{elements_fit, encrypt_exact}
-use Rattle.definitions.specs.Demand3.{AcceptedSet}
+use Rattle.std.specs.Prelude.{ℕ, ◌≡◌, length, replicate}
+use Rattle.definitions.specs.Parameters.{Parameters}
+use Rattle.definitions.specs.Calls.{EncryptExit, encrypt_exit}
+use Rattle.definitions.specs.Promises.{Read, Buffer, Cell, given, before, after}
 
-pub record EncryptJudged (p : Parameters) (public message ciphertext work : List ℕ) : Type 0 where
-  pub set : AcceptedSet p
-  pub exact : encrypt_exact p (length public) (length message) (length ciphertext) (length work) ≡ true
-  pub padded : padding_clear p.mlen message ≡ true
-  pub fits : elements_fit p (monomial_count p.dx) public ≡ true
+abbrev pub EncryptsOnceCleared : Parameters → Read → Read → Read → Buffer → Buffer → Cell → Cell → ℕ → Type 0
+EncryptsOnceCleared p public message random ciphertext work used dropped_groups r =
+    ◌≡◌ {A = EncryptExit}
+    (record {
+      refusal = r;
+      ciphertext = after ciphertext;
+      used = after used;
+      dropped_groups = after dropped_groups;
+      work = replicate (length (before work)) 0;
+    })
+    (encrypt_exit p (given public) (given message) (given random) (before ciphertext) (before used) (before dropped_groups) (before work))

@@ -6,7 +6,7 @@ ghost use Rattle.parameters.specs.Answers.{numbers_from};
 
 use conversions::{decode, encode, pack, unpack};
 use monomials::monomial_count;
-use parameters::{Checked, Parameters, SetNumbers};
+use parameters::{Parameters, SetNumbers, refusals};
 
 // A ring element: n coefficients of qlen octets each.
 #[unsafe(no_mangle)]
@@ -18,8 +18,8 @@ pub extern "C" fn giophantus_element_from_octets(
     ensures { Decodes (numbers_from set) 1 octets words result }
 {
     match Parameters::new(set) {
-        Checked::Accepted(p) => decode(p, 1, octets, words),
-        Checked::Refused(k) => k,
+        Ok(p) => refusals::number(decode(p, 1, octets, words)),
+        Err(refusal) => u32::from(refusal),
     }
 }
 
@@ -32,8 +32,8 @@ pub extern "C" fn giophantus_element_to_octets(
     ensures { Encodes (numbers_from set) 1 words octets result }
 {
     match Parameters::new(set) {
-        Checked::Accepted(p) => encode(p, 1, words, octets),
-        Checked::Refused(k) => k,
+        Ok(p) => refusals::number(encode(p, 1, words, octets)),
+        Err(refusal) => u32::from(refusal),
     }
 }
 
@@ -47,8 +47,8 @@ pub extern "C" fn giophantus_public_key_from_octets(
     ensures { Decodes (numbers_from set) (monomial_count set.dx) octets words result }
 {
     match Parameters::new(set) {
-        Checked::Accepted(p) => decode(p, monomial_count(set.dx), octets, words),
-        Checked::Refused(k) => k,
+        Ok(p) => refusals::number(decode(p, monomial_count(set.dx), octets, words)),
+        Err(refusal) => u32::from(refusal),
     }
 }
 
@@ -61,8 +61,8 @@ pub extern "C" fn giophantus_public_key_to_octets(
     ensures { Encodes (numbers_from set) (monomial_count set.dx) words octets result }
 {
     match Parameters::new(set) {
-        Checked::Accepted(p) => encode(p, monomial_count(set.dx), words, octets),
-        Checked::Refused(k) => k,
+        Ok(p) => refusals::number(encode(p, monomial_count(set.dx), words, octets)),
+        Err(refusal) => u32::from(refusal),
     }
 }
 
@@ -76,8 +76,8 @@ pub extern "C" fn giophantus_ciphertext_from_octets(
     ensures { Decodes (numbers_from set) (monomial_count (set.dx + set.dr)) octets words result }
 {
     match Parameters::new(set) {
-        Checked::Accepted(p) => decode(p, monomial_count(set.dx + set.dr), octets, words),
-        Checked::Refused(k) => k,
+        Ok(p) => refusals::number(decode(p, monomial_count(set.dx + set.dr), octets, words)),
+        Err(refusal) => u32::from(refusal),
     }
 }
 
@@ -90,8 +90,8 @@ pub extern "C" fn giophantus_ciphertext_to_octets(
     ensures { Encodes (numbers_from set) (monomial_count (set.dx + set.dr)) words octets result }
 {
     match Parameters::new(set) {
-        Checked::Accepted(p) => encode(p, monomial_count(set.dx + set.dr), words, octets),
-        Checked::Refused(k) => k,
+        Ok(p) => refusals::number(encode(p, monomial_count(set.dx + set.dr), words, octets)),
+        Err(refusal) => u32::from(refusal),
     }
 }
 
@@ -105,8 +105,8 @@ pub extern "C" fn giophantus_small_from_octets(
     ensures { Unpacks (numbers_from set) 1 octets words result }
 {
     match Parameters::new(set) {
-        Checked::Accepted(p) => unpack(p, 1, octets, words),
-        Checked::Refused(k) => k,
+        Ok(p) => refusals::number(unpack(p, 1, octets, words)),
+        Err(refusal) => u32::from(refusal),
     }
 }
 
@@ -119,8 +119,8 @@ pub extern "C" fn giophantus_small_to_octets(
     ensures { Packs (numbers_from set) 1 words octets result }
 {
     match Parameters::new(set) {
-        Checked::Accepted(p) => pack(p, 1, words, octets),
-        Checked::Refused(k) => k,
+        Ok(p) => refusals::number(pack(p, 1, words, octets)),
+        Err(refusal) => u32::from(refusal),
     }
 }
 
@@ -134,8 +134,8 @@ pub extern "C" fn giophantus_secret_key_from_octets(
     ensures { Unpacks (numbers_from set) 2 octets words result }
 {
     match Parameters::new(set) {
-        Checked::Accepted(p) => unpack(p, 2, octets, words),
-        Checked::Refused(k) => k,
+        Ok(p) => refusals::number(unpack(p, 2, octets, words)),
+        Err(refusal) => u32::from(refusal),
     }
 }
 
@@ -148,7 +148,7 @@ pub extern "C" fn giophantus_secret_key_to_octets(
     ensures { Packs (numbers_from set) 2 words octets result }
 {
     match Parameters::new(set) {
-        Checked::Accepted(p) => pack(p, 2, words, octets),
-        Checked::Refused(k) => k,
+        Ok(p) => refusals::number(pack(p, 2, words, octets)),
+        Err(refusal) => u32::from(refusal),
     }
 }

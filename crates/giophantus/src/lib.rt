@@ -1,7 +1,9 @@
-// The C interface (include/giophantus.h): every call begins with the numbers of the set, one struct by value (02, Q-7), and answers the refusal
-// number, 0 at success. Nothing here asks anything of its callers: unfit input is refused by document 01's table, and a refusal leaves every
-// output as it was. Each export makes the set by its constructor and goes on with an accepted one; its contract is the definitions' promise of the
-// call (definitions/specs/Promises.antt) at the set that the numbers name, and set_tests for the check.
+// The C interface (include/giophantus.h): every call begins with the numbers of the set, one struct by value (02, Q-7), and answers the
+// refusal number, 0 at success. Nothing here asks anything of its callers: unfit input is refused by document 01's table, and a refusal
+// leaves every output as it was. Each export makes the set by its constructor and goes on with an accepted one; its contract is the
+// definitions' promise of the call (definitions/specs/Promises.antt) at the set that the numbers name, and set_tests for the check. Each
+// export has its own name in C, and is kept as a match: of a call passed on as a closure, a proof would not know what the buffers hold where
+// the set is refused.
 #![tactic(auto)]
 
 pub mod conversion;
@@ -17,7 +19,7 @@ use decryption::decrypt;
 use encryption::encrypt;
 use key_generation::keygen;
 use multiply_add::multiply_add;
-use parameters::{Checked, Parameters, SetNumbers};
+use parameters::{Parameters, SetNumbers, refusals};
 use zero_test::is_zero;
 
 // The set's refusal, 0 where it is accepted.
@@ -26,8 +28,8 @@ pub extern "C" fn giophantus_check(set: SetNumbers) -> u32
     ensures { result ≡ first_refusal (set_tests (numbers_from set)) }
 {
     match Parameters::new(set) {
-        Checked::Accepted(_) => 0,
-        Checked::Refused(refusal) => refusal,
+        Ok(_) => 0,
+        Err(refusal) => u32::from(refusal),
     }
 }
 
@@ -37,13 +39,13 @@ pub extern "C" fn giophantus_limits(set: SetNumbers, bound: &mut u32, headroom: 
     ensures { Bounds (numbers_from set) bound headroom result }
 {
     match Parameters::new(set) {
-        Checked::Accepted(p) => {
+        Ok(p) => {
             let x = parameters::limits(p);
             *bound = x.bound;
             *headroom = x.headroom;
             0
         }
-        Checked::Refused(k) => k,
+        Err(refusal) => u32::from(refusal),
     }
 }
 
@@ -60,15 +62,15 @@ pub extern "C" fn giophantus_lengths(
     ensures { Measures (numbers_from set) secret_key public_key message ciphertext work result }
 {
     match Parameters::new(set) {
-        Checked::Accepted(p) => {
-            *secret_key = lengths::secret_length(p) as u64;
-            *public_key = lengths::public_length(p) as u64;
-            *message = lengths::message_length(p) as u64;
-            *ciphertext = lengths::ciphertext_length(p) as u64;
-            *work = lengths::work_length(p) as u64;
+        Ok(p) => {
+            *secret_key = lengths::secret_length(p.set) as u64;
+            *public_key = lengths::public_length(p.set) as u64;
+            *message = lengths::message_length(p.set) as u64;
+            *ciphertext = lengths::ciphertext_length(p.set) as u64;
+            *work = lengths::work_length(p.set) as u64;
             0
         }
-        Checked::Refused(k) => k,
+        Err(refusal) => u32::from(refusal),
     }
 }
 
@@ -87,8 +89,8 @@ pub extern "C" fn giophantus_keygen(
     ensures { Makes (numbers_from set) random secret public work used groups elements result }
 {
     match Parameters::new(set) {
-        Checked::Accepted(p) => keygen(p, random, secret, public, work, used, groups, elements),
-        Checked::Refused(k) => k,
+        Ok(p) => refusals::number(keygen(p, random, secret, public, work, used, groups, elements)),
+        Err(refusal) => u32::from(refusal),
     }
 }
 
@@ -104,8 +106,8 @@ pub extern "C" fn giophantus_is_zero(
     ensures { TellsZero (numbers_from set) secret_key public_key work zero result }
 {
     match Parameters::new(set) {
-        Checked::Accepted(p) => is_zero(p, secret_key, public_key, work, zero),
-        Checked::Refused(k) => k,
+        Ok(p) => refusals::number(is_zero(p, secret_key, public_key, work, zero)),
+        Err(refusal) => u32::from(refusal),
     }
 }
 
@@ -124,10 +126,10 @@ pub extern "C" fn giophantus_encrypt(
     ensures { Encrypts (numbers_from set) public_key message random ciphertext work used dropped result }
 {
     match Parameters::new(set) {
-        Checked::Accepted(p) => encrypt(
+        Ok(p) => refusals::number(encrypt(
             p, public_key, message, random, ciphertext, work, used, dropped,
-        ),
-        Checked::Refused(k) => k,
+        )),
+        Err(refusal) => u32::from(refusal),
     }
 }
 
@@ -137,8 +139,8 @@ pub extern "C" fn giophantus_add(set: SetNumbers, a: &[u8], b: &[u8], sum: &mut 
     ensures { Adds (numbers_from set) a b sum result }
 {
     match Parameters::new(set) {
-        Checked::Accepted(p) => add(p, a, b, sum),
-        Checked::Refused(k) => k,
+        Ok(p) => refusals::number(add(p, a, b, sum)),
+        Err(refusal) => u32::from(refusal),
     }
 }
 
@@ -154,8 +156,8 @@ pub extern "C" fn giophantus_decrypt(
     ensures { Decrypts (numbers_from set) secret_key ciphertext message work result }
 {
     match Parameters::new(set) {
-        Checked::Accepted(p) => decrypt(p, secret_key, ciphertext, message, work),
-        Checked::Refused(k) => k,
+        Ok(p) => refusals::number(decrypt(p, secret_key, ciphertext, message, work)),
+        Err(refusal) => u32::from(refusal),
     }
 }
 
@@ -170,7 +172,7 @@ pub extern "C" fn giophantus_multiply_add(
     ensures { MultipliesAndAdds (numbers_from set) a b c result }
 {
     match Parameters::new(set) {
-        Checked::Accepted(p) => multiply_add(p, a, b, c),
-        Checked::Refused(k) => k,
+        Ok(p) => refusals::number(multiply_add(p, a, b, c)),
+        Err(refusal) => u32::from(refusal),
     }
 }

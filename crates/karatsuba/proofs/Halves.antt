@@ -18,14 +18,11 @@ use Rattle.karatsuba.specs.Products.{Placing, Multiplied, BoundsSums, HalvesAdde
 use Rattle.karatsuba.proofs.Steps.{upper_ring, kept_ring}
 use Rattle.karatsuba.proofs.Identity.{Three, put_together}
 
--- ---- where the three products of a level stand: that of the sums, of the lower and of the upper halves
+-- ---- where products of a level stand: that of the sums and that of the upper halves
 module _ {m h a b at free : ℕ} {words : List ℕ} (half : m ≡ h + h) (places : Placing m a b at free words) {new : List ℕ}
     (long : length new ≡ length words) where
   pub placing_sums : Placing h at (at + h) free (free + m) new
   placing_sums = record { first = omega arith; second = omega arith; product = omega arith; room = omega arith }
-
-  pub placing_lower : Placing h a b at (free + m) new
-  placing_lower = record { first = omega arith; second = omega arith; product = omega arith; room = omega arith }
 
   pub placing_upper : Placing h (a + h) (b + h) (at + m) (free + m) new
   placing_upper = record { first = omega arith; second = omega arith; product = omega arith; room = omega arith }
@@ -52,10 +49,6 @@ module _ {q m h a b at free : ℕ} {words summed crossed : List ℕ} (half : m �
     where
       sums : (c i : ℕ) → (part words c i + part words (c + h) i) % q ≡ (part words c i + upper h (part words c) i) % q
       sums c i = ap (λ (j : ℕ). (part words c i + get_or words j 0) % q) (add_assoc c h i)
-
-  -- what the lower halves are read from
-  pub crossed_ring : {top : ℕ} → InRing q m (part words a) × InRing top m (part words b) → InRing q m (part crossed a) × InRing top m (part crossed b)
-  crossed_ring ring = (kept_ring a words crossed places.first crossed_kept ring.0, kept_ring b words crossed places.second crossed_kept ring.1)
 
   -- what the upper halves are read from
   pub lowered_ring : {top : ℕ} {lower : List ℕ} → Multiplied q h a b at (free + m) crossed lower → InRing q m (part words a) × InRing top m (part words b)

@@ -6,28 +6,28 @@ use native.Mathlib.Omega.{arith}
 use mathlib.Core.Path.{◌≡◌, sym, ◌∙◌, ap, subst}
 use mathlib.Core.List.{List}
 use lib.ListN.{length}
-use Rattle.definitions.specs.Ring.{InRing}
-use Rattle.ring.specs.Work.{part}
 use Rattle.ring.proofs.Work.{wrote}
 use Rattle.rows.specs.Rows.{leaf_product}
-use Rattle.karatsuba.specs.declared.Halving.{Halving}
-use Rattle.karatsuba.specs.Products.{Halvable, LevelBelow, Multiplied}
+use Rattle.karatsuba.specs.Halvable.{Halvable}
+use Rattle.karatsuba.specs.Products.{Multiplied}
 
-pub level_none : {h : Halving} → Halvable h → h.levels ≡ 0 → h.m ≡ h.leaf
-level_none {h} p z = p.whole ∙ ap (λ (l : ℕ). h.leaf * 2 ^ l) z ∙ mul-one h.leaf
+module _ {levels leaf m : ℕ} (p : Halvable levels leaf m) where
+  pub level_none : levels ≡ 0 → m ≡ leaf
+  level_none z = p.whole ∙ ap (λ (l : ℕ). leaf * 2 ^ l) z ∙ mul-one leaf
 
-pub level_below : {h : Halving} → Halvable h → (h.levels ≡ 0 → ⊥) → LevelBelow h (record { levels = h.levels - 1; leaf = h.leaf; m = h.m / 2 })
-level_below {h} p f =
-    let pos = pos_of_ne-zero f in
-    let next : h.levels ≡ suc (h.levels - 1) = omega arith in
-    let twice : h.m ≡ 2 * (h.leaf * 2 ^ (h.levels - 1)) = p.whole ∙ ap (λ (l : ℕ). h.leaf * 2 ^ l) next ∙ rw pow-suc (omega arith) in
-    record { halvable = record { whole = omega arith; short = p.short; most = omega (arith, p.most) }; half = omega arith; less = omega arith }
+  twice : (levels ≡ 0 → ⊥) → m ≡ 2 * (leaf * 2 ^ (levels - 1))
+  twice f =
+      let pos = pos_of_ne-zero f in
+      let next : levels ≡ suc (levels - 1) = omega arith in
+      p.whole ∙ ap (λ (l : ℕ). leaf * 2 ^ l) next ∙ rw pow-suc (omega arith)
+
+  pub level_half : (levels ≡ 0 → ⊥) → m ≡ m / 2 + m / 2
+  level_half f = omega (arith, twice f)
+
+  pub level_below : (levels ≡ 0 → ⊥) → Halvable (levels - 1) leaf (m / 2)
+  level_below f = record { whole = omega (arith, twice f); short = p.short; most = omega (arith, p.most) }
 
 -- ---- a leaf's product
-pub leaf_ring : {q top m leaf : ℕ} (a b : ℕ) (words : List ℕ) → m ≡ leaf → InRing q m (part words a) × InRing top m (part words b)
-    → InRing q leaf (part words a) × InRing top leaf (part words b)
-leaf_ring {q} {top} a b words e ring = subst (λ (n : ℕ). InRing q n (part words a) × InRing top n (part words b)) e ring
-
 pub leaf_multiplied : {q m leaf a b at free : ℕ} {words words' : List ℕ} → m ≡ leaf → at + (m + m) ≤ length words → words' ≡ leaf_product q leaf a b at words
     → Multiplied q m a b at free words words'
 leaf_multiplied {q} {m} {leaf} {a} {b} {at} {free} {words} {words'} e fit same =

@@ -1,7 +1,7 @@
 -- What several lists written over the words leave at each place: the steps before and after the three products.
 -- Assumes nothing.
 use Prim.Native.Nat.{ℕ, ◌+◌, ◌-◌, ◌%◌, ◌≤◌, ◌<◌}
-use native.Mathlib.Nat.{add_assoc, mod-lt, mod-eq_of_lt}
+use native.Mathlib.Nat.{add_assoc}
 use native.Mathlib.Omega.{arith}
 use mathlib.Core.Path.{◌≡◌, ◌∙◌, ap₂, subst}
 use mathlib.Core.List.{List}
@@ -10,12 +10,9 @@ use Rattle.definitions.specs.Sequences.{tabulate}
 use Rattle.definitions.specs.Ring.{InRing}
 use Rattle.ring.specs.Work.{part, written, element_added, element_taken}
 use Rattle.ring.proofs.Work.{Wrote, wrote}
-use Rattle.karatsuba.specs.Products.{Multiplied, BoundsSums, HalvesAdded, Joined}
+use Rattle.karatsuba.specs.Products.{HalvesAdded, Joined}
 
 -- ---- coefficients stay below their bounds
-
-pub lower_ring : {q m h : ℕ} (at : ℕ) (words : List ℕ) → h ≤ m → InRing q m (part words at) → InRing q h (part words at)
-lower_ring at words fit ring k l = ring k (omega arith)
 
 pub upper_ring : {q m h : ℕ} (at from : ℕ) (words : List ℕ) → from + h ≤ m → InRing q m (part words at) → InRing q h (part words (at + from))
 upper_ring at from words fit ring k l = rw (add_assoc at from k) (ring (from + k) (omega arith))
@@ -30,20 +27,6 @@ pub kept_at : (from : ℕ) (old new : List ℕ) {q n at : ℕ} → ((k : ℕ) �
 kept_at from old new {q} kept fit ring j l s =
     let place : from + (j - from) ≡ j = omega arith in
     rw (kept j (omega arith)) (subst (λ (i : ℕ). get_or old i 0 < q) place (ring (j - from) (omega arith)))
-
--- a product is reduced
-pub multiplied_ring : {q m a b at free : ℕ} {old new : List ℕ} → 0 < q → Multiplied q m a b at free old new → InRing q (m + m) (part new at)
-multiplied_ring pos p k l = rw (p.same k l) (mod-lt _ pos)
-
--- ---- the bound of a sum
-pub doubled_small : {q top : ℕ} → top < q - top → BoundsSums q top (top + top)
-doubled_small {q} {top} l = record { most = omega arith; bounds = λ x y h g. rw (small x y h g) (omega arith) }
-  where
-    small : (x y : ℕ) → x < top → y < top → (x + y) % q ≡ x + y
-    small x y h g = mod-eq_of_lt (omega arith)
-
-pub doubled_full : {q top : ℕ} → 0 < q → BoundsSums q top q
-doubled_full {q} pos = record { most = omega arith; bounds = λ x y h g. mod-lt (x + y) pos }
 
 -- ---- the sums of the halves
 

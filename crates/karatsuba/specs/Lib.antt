@@ -1,2 +1,3 @@
--- What a product by Karatsuba leaves behind.
+-- How a product is halved, and what a product by Karatsuba leaves behind.
+pub mod Halvable
 pub mod Products

@@ -1,8 +1,6 @@
 -- What a product by Karatsuba leaves behind, and what its steps do. All stands in one list of words: a and b, m = 2 h coefficients each,
 -- before the place at, the product from at on, and the words that are free behind it.
 --
---   Halvable         m is leaf times 2^levels, a leaf is short enough to be multiplied row by row, and m is at most the longest product's
---   LevelBelow       a level below: half as many coefficients
 --   Placing          the words stand so, and are enough
 --   Multiplied       the product of a and b, modulo q, stands at its place; the words before it and between it and the free ones are
 --                    kept; the free ones may be anything
@@ -10,20 +8,9 @@
 --   HalvesAdded      the sums, modulo q, of the halves of a and of those of b stand one after the other; all other words are kept
 --   Joined           the product at free, less the two that stand one after the other at their place, is added to these h places up
 -- Assumes nothing.
-use Rattle.std.specs.Prelude.{ℕ, ◌+◌, ◌-◌, ◌*◌, ◌^◌, ◌%◌, ◌<◌, ◌≤◌, ◌≡◌, List, length, get_or}
+use Rattle.std.specs.Prelude.{ℕ, ◌+◌, ◌-◌, ◌%◌, ◌<◌, ◌≤◌, ◌≡◌, List, length, get_or}
 use Rattle.ring.specs.Work.{part}
 use Rattle.ring.specs.Linear.{linear}
-use Rattle.karatsuba.specs.declared.Halving.{Halving}
-
-pub record Halvable (h : Halving) : Type 0 where
-  pub whole : h.m ≡ h.leaf * 2 ^ h.levels
-  pub short : h.leaf ≤ 80
-  pub most : h.m ≤ 4096
-
-pub record LevelBelow (h r : Halving) : Type 0 where
-  pub halvable : Halvable r
-  pub half : h.m ≡ r.m + r.m
-  pub less : r.levels < h.levels
 
 pub record Placing (m a b at free : ℕ) (words : List ℕ) : Type 0 where
   pub first : a + m ≤ at

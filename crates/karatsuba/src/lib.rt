@@ -9,8 +9,8 @@
 ghost use Rattle.std.specs.Prelude.{◌≡◌, ◌+◌, ◌<◌, ◌≤◌, length};
 ghost use Rattle.definitions.specs.Ring.{InRing};
 ghost use Rattle.ring.specs.Work.{part};
-ghost use Rattle.reduction.specs.Moduli.{Reciprocal};
-ghost use Rattle.karatsuba.specs.Products.{Halvable, LevelBelow, Placing, Multiplied, BoundsSums, HalvesAdded, Joined};
+ghost use Rattle.karatsuba.specs.Halvable.{Halvable};
+ghost use Rattle.karatsuba.specs.Products.{Placing, Multiplied, BoundsSums, HalvesAdded, Joined};
 
 use reduction::Modulus;
 
@@ -20,17 +20,21 @@ pub struct Halving {
     pub levels: usize,
     pub leaf: usize,
     pub m: usize,
+    pub ghost halvable: { Halvable levels leaf m },
 }
 
-// A level below.
-fn halved(h: Halving) -> Halving
-    requires { Halvable h × (h.levels ≡ 0 → ⊥) }
-    ensures { LevelBelow h result }
-{
-    Halving {
-        levels: h.levels - 1,
-        leaf: h.leaf,
-        m: h.m / 2,
+impl Halving {
+    // A level below: half as many coefficients.
+    fn below(self) -> Halving
+        requires { self.levels ≡ 0 → ⊥ }
+        ensures half { self.m ≡ result.m + result.m }
+        ensures less { result.levels < self.levels }
+    {
+        Halving {
+            levels: self.levels - 1,
+            leaf: self.leaf,
+            m: self.m / 2,
+        }
     }
 }
 
@@ -77,7 +81,7 @@ pub fn multiply(
     modulus: Modulus,
     top: u32,
 )
-    requires halvable { Halvable h × Placing h.m a b at free words.old × (top ≤ modulus.q) × Reciprocal modulus }
+    requires placing { Placing h.m a b at free words.old × (top ≤ modulus.q) }
     requires in_ring { InRing modulus.q h.m (part words.old a) × InRing top h.m (part words.old b) }
     ensures { Multiplied modulus.q h.m a b at free words.old words.new }
 {
@@ -85,7 +89,7 @@ pub fn multiply(
         rows::multiply(words, a, b, at, h.leaf, modulus, top);
         return;
     }
-    let below = halved(h);
+    let below = h.below();
     let m = h.m;
     let half = below.m;
     let r = doubled(top, modulus.q);

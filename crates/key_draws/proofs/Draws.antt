@@ -25,7 +25,7 @@ use Rattle.definitions.proofs.Draws.{then_drawn, secret_draws-groups, secret_dra
 use Rattle.definitions.proofs.OctetsUsed.{key_used_there}
 use Rattle.draws.proofs.Runs.{drawn_answer-ended}
 use Rattle.draws.specs.Runs.{drawn_answer}
-use Rattle.key_draws.specs.declared.KeyRun.TheVariants.{Complete}
+use Rattle.std.specs.Prelude.{Ok}
 use Rattle.key_draws.proofs.Parts.{slice_kept}
 use Rattle.key_draws.specs.Keys.{words_x, words_halves, words_terms, words_drawn, keys_said, keys_drawn}
 
@@ -53,16 +53,16 @@ module _ (p : Parameters) (random : List ℕ) where
   split : half_draws p random ≡ then_drawn (secret_draws p 1 random) (after (secret_draws p 1 random).groups)
   split = secret_draws-split p 1 random 1
 
-  pub halves_ended_x : (secret_draws p 1 random).enough ≡ false → refused 9 ≡ drawn_answer (half_draws p random)
-  halves_ended_x e = drawn_answer-ended _ (ap (λ (d : Drawn (List ℕ)). d.enough) split ∙ rw e)
+  pub halves_ended_x : {k : ℕ} → (k ≡ 9) × ((secret_draws p 1 random).enough ≡ false) → refused k ≡ drawn_answer (half_draws p random)
+  halves_ended_x ended = rw ended.0 (drawn_answer-ended _ (ap (λ (d : Drawn (List ℕ)). d.enough) split ∙ rw ended.1))
 
   module _ {x : List ℕ} {g d : ℕ} (first : secret_draws p 1 random ≡ enough_of (x ∷ []) g d) where
     parts : half_draws p random ≡ then_drawn (enough_of (x ∷ []) g d) (after g)
     parts = split ∙ ap (λ (f : Drawn (List ℕ)). then_drawn f (after f.groups)) first
 
-    pub halves_ended_y : {start : ℕ} → start ≡ small_length p * g → (secret_draws p 1 (drop start random)).enough ≡ false
-        → refused 9 ≡ drawn_answer (half_draws p random)
-    halves_ended_y at e = drawn_answer-ended _ (ap (λ (f : Drawn (List ℕ)). f.enough) parts ∙ (rw at at e))
+    pub halves_ended_y : {start k : ℕ} → start ≡ small_length p * g → (k ≡ 9) × ((secret_draws p 1 (drop start random)).enough ≡ false)
+        → refused k ≡ drawn_answer (half_draws p random)
+    halves_ended_y at ended = rw ended.0 (drawn_answer-ended _ (ap (λ (f : Drawn (List ℕ)). f.enough) parts ∙ (rw at at ended.1)))
 
     halves_whole : {y : List ℕ} {h c : ℕ} → after g ≡ enough_of (y ∷ []) h c → half_draws p random ≡ enough_of (x ∷ y ∷ []) (g + h) (d + c)
     halves_whole second = parts ∙ ap (then_drawn (enough_of (x ∷ []) g d)) second
@@ -87,16 +87,16 @@ module _ (p : Parameters) (random : List ℕ) where
       → small_length p * g + qlen p.q * h ≤ length random
   used-room g e f = omega (arith, e, key_used_there p random, ap (λ (r : Drawn ℕ). qlen p.q * r.groups) f)
 
-  pub keys_ended_halves : (half_draws p random).enough ≡ false → refused 9 ≡ keys_drawn p random
+  pub keys_ended_halves : {k : ℕ} → (k ≡ 9) × ((half_draws p random).enough ≡ false) → refused k ≡ keys_drawn p random
   unfolding keys_drawn answer first_refusal
-  keys_ended_halves e = rw e
+  keys_ended_halves ended = rw (ended.0, ended.1)
 
-  pub keys_ended_terms : (key_draws p random).enough ≡ false → refused 9 ≡ keys_drawn p random
+  pub keys_ended_terms : {k : ℕ} → (k ≡ 9) × ((key_draws p random).enough ≡ false) → refused k ≡ keys_drawn p random
   unfolding keys_drawn answer first_refusal
-  keys_ended_terms e = rw (either_second (not (half_draws p random).enough) (not (key_draws p random).enough) (ap not e))
+  keys_ended_terms ended = rw (ended.0, either_second (not (half_draws p random).enough) (not (key_draws p random).enough) (ap not ended.1))
 
   pub keys_whole : (work : List ℕ) {g d h c used : ℕ} → half_draws p random ≡ enough_of (words_halves p work) g d
       → key_draws p random ≡ enough_of (words_drawn p work) h c → take (term_coefficients p) (words_drawn p work) ≡ words_terms p work → used ≡ small_length p * g + qlen p.q * h
-      → keys_said p (Complete used c d) work ≡ keys_drawn p random
+      → keys_said p (Ok (record { octets = used; groups = c; elements = d })) work ≡ keys_drawn p random
   unfolding keys_drawn answer first_refusal key_pair_of
   keys_whole work e f t u = rw (e, f, t, u)

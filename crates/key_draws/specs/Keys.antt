@@ -7,11 +7,11 @@
 --                    that is drawn for the key
 --   KeyWords         work words of the exact length with small elements in the first two parts and elements of R_q behind them
 --   public_in         the public key's octets, of the terms and the secret in the work words
---   keys_said         what each answer of the draws says, with the work words beside it: the keys that they make and the three numbers, or 9
+--   keys_said         what each answer of the draws says, with the work words beside it: the keys that they make and the three numbers, or the
+--                    refusal's number
 --   keys_drawn        what is to be said: key generation's answer after the length test
---   IsReady            where all is drawn, the work words are those of a key
 -- Assumes nothing.
-use Rattle.std.specs.Prelude.{ℕ, ◌+◌, ◌-◌, ◌*◌, ◌≡◌, true, List, [], ◌∷◌, ◌++◌, length, take}
+use Rattle.std.specs.Prelude.{ℕ, ◌+◌, ◌-◌, ◌*◌, ◌≡◌, true, List, [], ◌∷◌, ◌++◌, length, take, Result, Ok, Err}
 use Rattle.std.proofs.Math.Seq.{slice}
 use Rattle.definitions.specs.Sequences.{tabulate}
 use Rattle.definitions.specs.Refusals.{Answer, refused, accepted, answer}
@@ -19,9 +19,10 @@ use Rattle.definitions.specs.Parameters.{Parameters, qlen, monomial_count}
 use Rattle.definitions.specs.Ring.{element_of}
 use Rattle.definitions.specs.Octets.{encoded, coefficients_fit}
 use Rattle.definitions.specs.Calls.{KeyPair, half_draws, key_elements, key_draws, key_constant, key_pair_of, keygen_tests}
-use Rattle.definitions.specs.Demand3.{AcceptedSet, InSmallRing, secret_of}
+use Rattle.definitions.specs.Demand3.{InSmallRing, secret_of}
+use Rattle.parameters.specs.declared.refusals.Refusal.{Refusal}
+use Rattle.parameters.specs.Refusals.{refusal_number}
 use Rattle.key_draws.specs.declared.KeyRun.{KeyRun}
-use Rattle.key_draws.specs.declared.KeyRun.TheVariants.{Complete, Exhausted}
 
 abbrev pub Follows : ℕ → ℕ → List ℕ → List ℕ → List ℕ → Type 0
 Follows at stop new old given = take stop given ≡ take at old ++ new
@@ -48,7 +49,6 @@ abbrev pub words_drawn : Parameters → List ℕ → List ℕ
 words_drawn p = slice (p.n + p.n) (drawn_end p)
 
 pub record KeyWords (p : Parameters) (work : List ℕ) : Type 0 where
-  pub set : AcceptedSet p
   pub sized : length work ≡ 8 * p.n
   pub x : InSmallRing p (words_x p work)
   pub y : InSmallRing p (words_y p work)
@@ -60,21 +60,17 @@ public_in p work =
     (words_terms p work
     ++ tabulate p.n (key_constant p (words_terms p work) (element_of (words_x p work)) (element_of (words_y p work))))
 
-abbrev pub keys_said : Parameters → KeyRun → List ℕ → Answer KeyPair
-keys_said p (Complete used groups elements) work =
+abbrev pub keys_said : Parameters → Result KeyRun Refusal → List ℕ → Answer KeyPair
+keys_said p (Ok run) work =
     accepted
     (record {
       secret = secret_of p (words_x p work) (words_y p work);
       public = public_in p work;
-      used = used;
-      dropped_groups = groups;
-      dropped_elements = elements;
+      used = run.octets;
+      dropped_groups = run.groups;
+      dropped_elements = run.elements;
     })
-keys_said p Exhausted work = refused 9
+keys_said p (Err refusal) work = refused (refusal_number refusal)
 
 unfoldable pub keys_drawn : Parameters → List ℕ → Answer KeyPair
 keys_drawn p random = answer [] (keygen_tests p random) (key_pair_of p (half_draws p random) (key_draws p random))
-
-abbrev pub IsReady : Parameters → KeyRun → List ℕ → Type 0
-IsReady p (Complete used groups elements) work = KeyWords p work
-IsReady p Exhausted work = Unit {0}

@@ -1,5 +1,6 @@
 -- Why a key's constant is minus the value of the key with 0 in its place: that value is the sum over the other terms.
 --
+--   given_ok              what holds of an Ok, where no refusal is told
 --   terms_fit             the octets of the terms and of a constant 0: each coefficient is below q
 --   constant_octets       the key's octets, once the constant's are written over those of 0
 --   constant_placed       an element's negative, written behind the octets of the terms
@@ -24,10 +25,18 @@ use Rattle.definitions.proofs.Parameters.{Accepted, modulus_positive}
 use Rattle.definitions.proofs.Octets.{AllBelow, length-encoded, encoded-append}
 use Rattle.definitions.proofs.Values.{value_cong_secret}
 use Rattle.definitions.proofs.KeyTerms.{key_fits, key-value}
+use Rattle.std.specs.Prelude.{Result, Ok, Err, OnOk}
+use Rattle.parameters.specs.declared.refusals.Refusal.{Refusal}
+use Rattle.parameters.specs.Refusals.{number_in}
+use Rattle.parameters.proofs.Answers.{refusal-some}
 use Rattle.ring.specs.Work.{part, negated}
 use Rattle.ring.proofs.Work.{written-part}
 use Rattle.key_generation.specs.Keys.{with_constant}
 use Rattle.key_draws.proofs.Parts.{put_tail}
+
+pub given_ok : {A P : Type 0} (outcome : Result A Refusal) → number_in outcome ≡ 0 → OnOk outcome P → P
+given_ok (Ok a) none given = given
+given_ok (Err refusal) none given = absurd (refusal-some refusal none)
 
 module _ (p : Parameters) (a : Accepted p) (others : List ℕ) (sized : length others ≡ (monomial_count p.dx - 1) * p.n) (below : AllBelow p.q others) where
   abbrev zeros : List ℕ

@@ -8,7 +8,7 @@
 --   sum_then         an element was added to a sum
 --   gains_none, -by  nothing was added;  gains_spare: part 6 was filled first
 --   terms_none, -more    so many terms were added;  terms-product: all, from 0 on, are the product
---   inputs-kept, adding-kept   what is asked of the work words at entry still holds after a step
+--   inputs-kept, adding_after   what is asked of the work words at entry still holds after a step
 -- Assumes nothing.
 use Prim.Native.Nat.{ℕ, suc, ◌+◌, ◌-◌, ◌*◌, ◌%◌, ◌≤◌, ◌<◌}
 use native.Mathlib.Nat.{mod-add-mod, mod-eq_of_lt, mod-lt, mul-le-mul_right, add-zero}

@@ -10,7 +10,6 @@ ghost use Rattle.definitions.specs.Sequences.{tabulate};
 ghost use Rattle.definitions.specs.Parameters.{degree, monomial_count, work_length};
 ghost use Rattle.definitions.specs.Ring.{InRing, conv};
 ghost use Rattle.definitions.specs.Calls.{polynomial_from};
-ghost use Rattle.definitions.specs.Demand3.{AcceptedSet};
 ghost use Rattle.parameters.specs.Answers.{set_from};
 ghost use Rattle.ring.specs.Work.{part, written};
 ghost use Rattle.mask_products.specs.Products.{mask_in, sum_in, pair_term, element_terms, product_term, KeyAndMask, Adding, SumIs, SumGains};
@@ -19,10 +18,10 @@ use parameters::Parameters;
 
 // The sum becomes 0.
 pub fn clear_sum(p: Parameters, work: &mut [u32])
-    requires { AcceptedSet (set_from p) × (length work.old ≡ work_length (set_from p)) }
+    requires { length work.old ≡ work_length (set_from p) }
     ensures { SumIs (set_from p) (λ mask k. 0) work.old work.new }
 {
-    let n = p.n as usize;
+    let n = p.set.n as usize;
     let from = 7 * n;
     let end = from + n;
     ring::clear(&mut work[from..end]);
@@ -30,15 +29,15 @@ pub fn clear_sum(p: Parameters, work: &mut [u32])
 
 // The key's i-th element, into part 6.
 pub fn load_key(p: Parameters, public: &[u8], i: usize, work: &mut [u32])
-    requires { KeyAndMask (set_from p) public.now work.old × (i < monomial_count p.dx) }
-    ensures { work.new ≡ written (6 * p.n) (tabulate p.n (polynomial_from (set_from p) public.now i)) work.old }
+    requires { KeyAndMask (set_from p) public.now work.old × (i < monomial_count p.set.dx) }
+    ensures { work.new ≡ written (6 * p.set.n) (tabulate p.set.n (polynomial_from (set_from p) public.now i)) work.old }
 {
-    let n = p.n as usize;
+    let n = p.set.n as usize;
     decoding::element(
         public,
         i,
         n,
-        lengths::octets_of_coefficient(p.q),
+        lengths::octets_of_coefficient(p.set.q),
         work,
         6 * n,
     );
@@ -46,20 +45,20 @@ pub fn load_key(p: Parameters, public: &[u8], i: usize, work: &mut [u32])
 
 // Part 6 times the mask's j-th element, added to the sum.
 pub fn multiply_mask(p: Parameters, j: usize, work: &mut [u32])
-    requires accepted_set { AcceptedSet (set_from p) × (length work.old ≡ work_length (set_from p)) × (j < 6) }
-    requires in_ring { InRing p.q p.n (part work.old (6 * p.n)) × InRing p.q p.n (mask_in (set_from p) work.old j) × InRing p.q p.n (sum_in (set_from p) work.old) }
-    ensures { SumGains (set_from p) (λ mask. conv p.n (part work.old (6 * p.n)) (mask j)) work.old work.new }
+    requires work_exact { (length work.old ≡ work_length (set_from p)) × (j < 6) }
+    requires in_ring { InRing p.set.q p.set.n (part work.old (6 * p.set.n)) × InRing p.set.q p.set.n (mask_in (set_from p) work.old j) × InRing p.set.q p.set.n (sum_in (set_from p) work.old) }
+    ensures { SumGains (set_from p) (λ mask. conv p.set.n (part work.old (6 * p.set.n)) (mask j)) work.old work.new }
 {
-    let n = p.n as usize;
-    products::multiply_add(work, 6 * n, j * n, 7 * n, n, p.q, p.q);
+    let n = p.set.n as usize;
+    products::multiply_add(work, 6 * n, j * n, 7 * n, n, p.set.q, p.set.q);
 }
 
 // One pair of monomials.
 fn add_pair(p: Parameters, public: &[u8], i: usize, j: usize, m: usize, work: &mut [u32])
-    requires { Adding (set_from p) m public.now work.old × (i < monomial_count p.dx) × (j < monomial_count p.dr) }
+    requires { Adding (set_from p) m public.now work.old × (i < monomial_count p.set.dx) × (j < monomial_count p.set.dr) }
     ensures { SumGains (set_from p) (pair_term (set_from p) (polynomial_from (set_from p) public.now) m i j) work.old work.new }
 {
-    if !monomials::same_monomial(p.dx, i, p.dr, j, m) {
+    if !monomials::same_monomial(p.set.dx, i, p.set.dr, j, m) {
         return;
     }
     load_key(p, public, i, work);
@@ -68,14 +67,11 @@ fn add_pair(p: Parameters, public: &[u8], i: usize, j: usize, m: usize, work: &m
 
 // One monomial of the key, with each of the mask.
 fn add_element(p: Parameters, public: &[u8], i: usize, m: usize, work: &mut [u32])
-    requires { Adding (set_from p) m public.now work.old × (i < monomial_count p.dx) }
+    requires { Adding (set_from p) m public.now work.old × (i < monomial_count p.set.dx) }
     ensures { SumGains (set_from p) (element_terms (set_from p) (polynomial_from (set_from p) public.now) m i) work.old work.new }
 {
-    let count = monomials::monomial_count(p.dr);
-    let mut j = 0;
-    while j < count {
+    for j in 0..monomials::monomial_count(p.set.dr) {
         add_pair(p, public, i, j, m, work);
-        j += 1;
     }
 }
 
@@ -85,10 +81,7 @@ pub fn product_at(p: Parameters, public: &[u8], m: usize, work: &mut [u32])
     ensures { SumIs (set_from p) (product_term (set_from p) (polynomial_from (set_from p) public.now) m) work.old work.new }
 {
     clear_sum(p, work);
-    let count = monomials::monomial_count(p.dx);
-    let mut i = 0;
-    while i < count {
+    for i in 0..monomials::monomial_count(p.set.dx) {
         add_element(p, public, i, m, work);
-        i += 1;
     }
 }

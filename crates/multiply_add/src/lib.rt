@@ -4,67 +4,56 @@
 // side by side into one, and the result is copied back. The contract cites the definitions' MultipliesAndAdds.
 #![tactic(auto)]
 
-ghost use Rattle.std.specs.Prelude.{◌≡◌, ◌*◌, ◌≤◌, length};
-ghost use Rattle.definitions.specs.MultiplyAdd.{words_fit, multiply_add_words};
+ghost use Rattle.std.specs.Prelude.{◌≡◌, ◌*◌, ◌≤◌};
+ghost use Rattle.definitions.specs.MultiplyAdd.{multiply_add_words};
 ghost use Rattle.definitions.specs.MultiplyAddHolds.{RingElements};
 ghost use Rattle.definitions.specs.Promises.{MultipliesAndAdds};
-ghost use Rattle.definitions.specs.Demand3.{AcceptedSet};
 ghost use Rattle.parameters.specs.Answers.{set_from};
+ghost use Rattle.parameters.specs.Refusals.{number_in};
 
-use parameters::{Parameters, refusals};
+use parameters::Parameters;
+use parameters::refusals::Refusal;
 
-// Whether each word of the three is below q.
-fn words_fit(q: u32, a: &[u32], b: &[u32], c: &[u32]) -> bool
-    ensures { result ≡ words_fit q a.now b.now c.now }
-{
-    (judging::judge_words(a, q) == 0)
-        & ((judging::judge_words(b, q) == 0) & (judging::judge_words(c, q) == 0))
-}
-
-// The operation in a list of its own: a from 0 on, b from n on and c from 2 n on.
-fn multiply_in(p: Parameters, a: &[u32], b: &[u32], c: &mut [u32], words: &mut [u32])
-    requires { AcceptedSet (set_from p) × RingElements (set_from p) a.now b.now c.old × (3 * p.n ≤ length words.old) }
+// The operation in an array of its own: a from 0 on, b from n on and c from 2 n on.
+fn multiply_in_array<const WORDS: usize>(p: Parameters, a: &[u32], b: &[u32], c: &mut [u32])
+    requires { RingElements (set_from p) a.now b.now c.old × (3 * p.set.n ≤ WORDS) × (WORDS ≤ 12288) }
     ensures { c.new ≡ multiply_add_words (set_from p) a.now b.now c.old }
 {
-    let n = p.n as usize;
+    let mut words = [0u32; WORDS];
+    let q = p.set.q;
+    let n = p.set.n as usize;
     let at = 2 * n;
-    ring::copy_from(words, 0, a, 0, n);
-    ring::copy_from(words, n, b, 0, n);
-    ring::copy_from(words, at, c, 0, n);
-    products::multiply_add(words, 0, n, at, n, p.q, p.q);
-    ring::copy_from(c, 0, words, at, n);
+    ring::copy_from(&mut words, 0, a, 0, n);
+    ring::copy_from(&mut words, n, b, 0, n);
+    ring::copy_from(&mut words, at, c, 0, n);
+    products::multiply_add(&mut words, 0, n, at, n, q, q);
+    ring::copy_from(c, 0, &words, at, n);
 }
 
-// The same in an array of the least of three sizes: clearing it then costs little beside the product.
+// The same in the least of three arrays: clearing it then costs little beside the product.
 fn multiply(p: Parameters, a: &[u32], b: &[u32], c: &mut [u32])
-    requires { AcceptedSet (set_from p) × RingElements (set_from p) a.now b.now c.old }
+    requires { RingElements (set_from p) a.now b.now c.old }
     ensures { c.new ≡ multiply_add_words (set_from p) a.now b.now c.old }
 {
-    if p.n <= 80 {
-        let mut short = [0u32; 240];
-        multiply_in(p, a, b, c, &mut short);
-        return;
+    if p.set.n <= 80 {
+        multiply_in_array::<240>(p, a, b, c);
+    } else if p.set.n <= 1280 {
+        multiply_in_array::<3840>(p, a, b, c);
+    } else {
+        multiply_in_array::<12288>(p, a, b, c);
     }
-    if p.n <= 1280 {
-        let mut middle = [0u32; 3840];
-        multiply_in(p, a, b, c, &mut middle);
-        return;
-    }
-    let mut long = [0u32; 12288];
-    multiply_in(p, a, b, c, &mut long);
 }
 
 // c := a × b + c under an accepted set, or the refusal.
-pub fn multiply_add(p: Parameters, a: &[u32], b: &[u32], c: &mut [u32]) -> u32
-    requires { AcceptedSet (set_from p) }
-    ensures { MultipliesAndAdds (set_from p) a b c result }
+pub fn multiply_add(p: Parameters, a: &[u32], b: &[u32], c: &mut [u32]) -> Result<(), Refusal>
+    ensures { MultipliesAndAdds (set_from p) a b c (number_in result) }
 {
-    if !lengths::multiply_add_exact(p, a.len(), b.len(), c.len()) {
-        return refusals::LENGTH;
+    if !lengths::multiply_add_exact(p.set, a.len(), b.len(), c.len()) {
+        return Err(Refusal::Length);
     }
-    if !words_fit(p.q, a, b, c) {
-        return refusals::COEFFICIENT;
-    }
+    judging::judge_words(a, p.set.q)?;
+    judging::judge_words(b, p.set.q)?;
+    judging::judge_words(c, p.set.q)?;
     multiply(p, a, b, c);
-    0
+    Ok(())
 }

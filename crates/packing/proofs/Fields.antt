@@ -7,6 +7,7 @@
 --   regrouped-add    a list regrouped, then so many places more, from the number of a group
 --   regrouped_group  one group more: so many numbers of w bits, that are so many places of v bits
 --   regrouped_parts  whole groups, a last one that may be short, and zeros
+--   lent, filled      a part as code lends it; zeros filled in from a place on
 -- Assumes nothing.
 use Prim.Native.Nat.{ℕ, zero, suc, ◌+◌, ◌-◌, ◌*◌, ◌/◌, ◌%◌, ◌^◌, ◌≤◌, ◌<◌, min}
 use mathlib.Core.Path.{◌≡◌, refl, sym, ap, ap₂, ◌∙◌}
@@ -18,8 +19,9 @@ use native.Mathlib.Decide.{dec_lt}
 use native.Mathlib.Omega.{arith}
 use lib.Arith.{digits_lt}
 use lib.Pow.{pow_pos, pow-add, shr-shr, field, mod-mod-pow}
-use lib.ListN.{length, get_or, take, drop, length-drop, replicate}
-use lib.Seq.{get_or-take, get_or-drop, take_all}
+use lib.ListN.{length, get_or, take, drop, length-drop, drop_of_length-le, replicate}
+use lib.Seq.{get_or-take, get_or-drop, take_all, length-take-le}
+use borrow.Rule.Slice.PartMut.{put_mid}
 use Rattle.definitions.specs.Sequences.{tabulate}
 use Rattle.definitions.specs.Octets.{number_of, octets_of, bit_at, regrouped}
 use Rattle.definitions.proofs.Sums.{sum_cong, sum-zero, tabulate_cong}
@@ -216,3 +218,16 @@ module _ {w v places many : ℕ} (group : Group w v places many) (n : ℕ) (numb
 pub take_stored_fields : (at len x : ℕ) (l : List ℕ) {r : List ℕ} → at + len ≤ length l → r ≡ stored at len x l
     → take (at + len) r ≡ take at l ++ fields_of 8 len x
 take_stored_fields at len x l h e = rw (← octets_of_fields len x) (take_stored at len x l h e len (omega arith))
+
+-- a part as code lends it
+pub lent : (at n : ℕ) (l : List ℕ) → take (at + n - at) (drop at l) ≡ take n (drop at l)
+lent at n l = let size : at + n - at ≡ n = omega arith in rw size
+
+-- zeros filled in from a place on
+pub filled : (at : ℕ) (l : List ℕ) {part : List ℕ} → at ≤ length l → part ≡ replicate (length (take (length l - at) (drop at l))) 0
+    → put_mid at (length l - at) l part ≡ take at l ++ replicate (length l - at) 0
+filled at l room e =
+    let left : length (drop at l) ≡ length l - at = length-drop at l in
+    let size : length (take (length l - at) (drop at l)) ≡ length l - at = length-take-le (length l - at) (drop at l) (omega arith) in
+    let none : drop (length l - at) (drop at l) ≡ [] = drop_of_length-le (drop at l) (omega arith) in
+    rw (e, size, none, append-nil (replicate {A = ℕ} (length l - at) 0))

@@ -1,14 +1,13 @@
 -- How large a group is: many × 8 coefficients of b bits are many × b octets, at most 4, so that its number has at most 32 bits.
 --
 --   Group            so many numbers of w bits are so many places of v bits;  group_of: coefficients and octets;  turned: the other way round
---   many-..          many is at most 4, and so is b;  many_last: a last group, which may be short, has at most 32 bits
+--   many_narrow      b is at most 4;  many_last: a last group, which may be short, has at most 32 bits
 --   four-over-..     4 / b will do for many
---   groups-within    whole groups are inside;  some_within: and so are some of them;  part_end: and a part after them
---   place-below      a place is at most where its octets or coefficients start
+--   groups-within    whole groups are inside;  part_end: and so is a part after them
 -- Assumes nothing.
 use Prim.Native.Nat.{ℕ, ◌+◌, ◌-◌, ◌*◌, ◌/◌, ◌≤◌, ◌<◌, min}
 use mathlib.Core.Path.{◌≡◌, sym}
-use native.Mathlib.Nat.{mul-pos, mul-le-mul_left, mul-le-mul_right, div-mul-le_self, le-div_iff_mul-le, le_trans}
+use native.Mathlib.Nat.{mul-pos, mul-le-mul_right, div-mul-le_self, le-div_iff_mul-le, le_trans}
 use native.Mathlib.Omega.{arith}
 
 pub record Group (w v places many : ℕ) : Type 0 where
@@ -33,9 +32,6 @@ turned g =
     }
 
 module _ (b many : ℕ) (fits : many * b ≤ 4) where
-  pub many_few : 1 ≤ b → many ≤ 4
-  many_few pos = omega (arith, mul-le-mul_left many pos)
-
   pub many_narrow : 1 ≤ many → b ≤ 4
   many_narrow pos = omega (arith, mul-le-mul_right b pos)
 
@@ -54,11 +50,5 @@ four_over_some b pos narrow = (le-div_iff_mul-le pos).1 (omega arith)
 pub groups-within : (g n size : ℕ) → g ≤ n / size → g * size ≤ n
 groups-within g n size h = le_trans (mul-le-mul_right size h) (div-mul-le_self n size)
 
-pub some_within : (g some groups size : ℕ) {total : ℕ} → g + some ≤ groups → groups * size ≤ total → (g + some) * size ≤ total
-some_within g some groups size l h = le_trans (mul-le-mul_right size l) h
-
 pub part_end : {start total len : ℕ} (most : ℕ) → start ≤ total → len ≡ min (total - start) most → start + len ≤ total
 part_end most h e = omega arith
-
-pub place-below : (m len : ℕ) {total bound : ℕ} → 1 ≤ len → m * len + len ≤ total → total < bound → m < bound
-place-below m len pos h l = omega (arith, mul-le-mul_left m pos)

@@ -2,7 +2,7 @@
 --
 --   ClearTo          the octets before a place have no bit set from bit `used` on
 --   clear_to_step       one octet more
---   padding_number-.. what the test of the unused bits answers;  -passed, -refused: and what its answer says
+--   padding_number-.. what the test of the unused bits answers;  -passed, -refused: and what its answer says;  padding_ok: of an outcome
 -- Assumes nothing.
 use Prim.Native.Nat.{ℕ, ◌+◌, ◌-◌, ◌*◌, ◌/◌, ◌%◌, ◌^◌, ◌≤◌, ◌<◌}
 use mathlib.Core.Path.{◌≡◌, refl, sym, ap, ◌∙◌}
@@ -12,14 +12,19 @@ use native.Mathlib.Nat.{zero-div, mul-zero}
 use native.Mathlib.Decide.{dec_lt}
 use native.Mathlib.Omega.{arith}
 use borrow.Author.Tests.{not-false}
-use lib.Dec.{lit<}
+use lib.Dec.{lit<, eqb}
 use lib.Pow.{shr-shr, shr_lt}
 use lib.ListN.{length, get_or}
 use Rattle.definitions.specs.Refusals.{refuse, first_refusal}
 use Rattle.definitions.specs.Octets.{bit_at, padding_clear}
-use Rattle.definitions.proofs.Refusals.{first_refusal_passed, first_refusal_last}
+use Rattle.definitions.proofs.Refusals.{first_refusal_passed, first_refusal_last, first_refusal-zero}
 use Rattle.definitions.proofs.Sums.{sum-zero}
 use Rattle.definitions.proofs.Packing.{binary_bits, bit_at_digit, padding_clear_at, padding_clear_true}
+use Rattle.std.specs.Prelude.{Result}
+use Rattle.std.specs.Result.{is_ok}
+use Rattle.parameters.specs.declared.refusals.Refusal.{Refusal}
+use Rattle.parameters.specs.Refusals.{number_in}
+use Rattle.parameters.proofs.Answers.{ok-number}
 use Rattle.packing.specs.Fields.{padding_number}
 
 clear_bit : (x s j : ℕ) → s ≤ j → x / 2 ^ s ≡ 0 → x / 2 ^ j % 2 ≡ 0
@@ -74,3 +79,9 @@ module _ (used : ℕ) (octets : List ℕ) where
       go : (t : Bool) → (first_refusal (refuse 7 (not t) ∷ []) ≡ 0 → ⊥) → t ≡ false
       go true e = absurd (e (first_refusal_last 7 false refl))
       go false e = refl
+
+  -- an outcome with its number is Ok just where they are zero
+  pub padding_ok : {A : Type 0} (outcome : Result A Refusal) → number_in outcome ≡ padding_number used octets → is_ok outcome ≡ padding_clear used octets
+  unfolding padding_number
+  padding_ok outcome e =
+      ok-number outcome ∙ ap (λ (n : ℕ). eqb n 0) e ∙ first_refusal-zero 6 (padding_clear used octets)

@@ -1,65 +1,44 @@
 // Small elements and messages (01, "Ring, monomials, octets"): coefficient i takes b bits, starting at bit i × b of the octets.
 // 32 bits hold 32 coefficients of 1 bit, 16 of 2, 8 of 3 or of 4; the loops go by such groups, and a last group may be shorter. A
-// list that ends early counts as going on with zeros, so the lengths are free. Unused bits are judged by `padding`, which refuses with 7,
+// list that ends early counts as going on with zeros, so the lengths are free. Unused bits are judged by `padding`, which refuses,
 // and written as zero. The contracts cite the definitions' packed and padding_clear; those of the steps also specs/Fields.antt and
 // specs/Lanes.antt. A group is added up in four lanes, of every fourth coefficient each, since the compiler then adds whole rows of four at
-// once. The loops are written once, with b as a variable, and called with a constant, so that the compiler makes a loop for each b.
+// once. The loops of `pack_groups_by` are written once, with b as a const parameter, so that the compiler makes them for each b.
 #![tactic(auto)]
 
-ghost use Rattle.std.specs.Prelude.{◌≡◌, true, ◌++◌, ℕ, ◌+◌, ◌-◌, ◌*◌, ◌/◌, ◌^◌, ◌≤◌, ◌<◌, min, length, take, drop, replicate};
+ghost use Rattle.std.specs.Prelude.{◌≡◌, true, ◌++◌, ℕ, ◌+◌, ◌*◌, ◌/◌, ◌^◌, ◌≤◌, ◌<◌, length, take, drop};
 ghost use Rattle.definitions.specs.Sequences.{tabulate};
 ghost use Rattle.definitions.specs.Octets.{packed, encoded, coefficients_fit};
+ghost use Rattle.parameters.specs.Refusals.{number_in};
 ghost use Rattle.packing.specs.Fields.{value_in, padding_number};
 ghost use Rattle.packing.specs.Lanes.{lanes_in, lane_number, group_number};
 
-use parameters::refusals;
+use parameters::refusals::Refusal;
 
-// 7 where a bit from bit `used` on is not zero, otherwise 0.
-pub fn padding(octets: &[u8], used: usize) -> u32
-    ensures { result ≡ padding_number used octets.now }
+// Refused where a bit from bit `used` on is not zero.
+pub fn padding(octets: &[u8], used: usize) -> Result<(), Refusal>
+    ensures { number_in result ≡ padding_number used octets.now }
 {
     let mut shift = used % 8;
-    let mut i = used / 8;
-    while i < octets.len() {
+    for i in used / 8..octets.len() {
         if octets[i] >> shift != 0 {
-            return refusals::PADDING;
+            return Err(Refusal::Padding);
         }
         shift = 0;
-        i += 1;
     }
-    0
+    Ok(())
 }
 
-// The smaller of two lengths.
-pub fn least(a: usize, b: usize) -> usize
-    ensures { result ≡ min a b }
-{
-    if a < b { a } else { b }
-}
-
-// The number of so many coefficients from a place on.
-fn gather(words: &[u32], at: usize, count: usize, b: usize) -> u32
-    requires { (1 ≤ b) × (count * b ≤ 32) × (at + count ≤ length words.now) × (coefficients_fit (2 ^ b) words.now ≡ true) }
-    ensures { result ≡ value_in b (take count (drop at words.now)) }
+// The number of some coefficients.
+fn gather(words: &[u32], b: usize) -> u32
+    requires { (1 ≤ b) × (length words.now * b ≤ 32) × (coefficients_fit (2 ^ b) words.now ≡ true) }
+    ensures { result ≡ value_in b words.now }
 {
     let mut x: u32 = 0;
-    let mut k = 0;
-    while k < count {
-        x += words[at + k] << (k * b);
-        k += 1;
+    for (k, word) in words.iter().enumerate() {
+        x += *word << (k * b);
     }
     x
-}
-
-fn clear_octets(octets: &mut [u8], at: usize)
-    requires { at ≤ length octets.old }
-    ensures { octets.new ≡ take at octets.old ++ replicate (length octets.old - at) 0 }
-{
-    let mut i = at;
-    while i < octets.len() {
-        octets[i] = 0;
-        i += 1;
-    }
 }
 
 // The four lanes of a group: lane k adds up every fourth coefficient from coefficient k on, 4 b bits each.
@@ -71,15 +50,13 @@ fn collect(words: &[u32], at: usize, rows: usize, b: usize, lanes: &mut [u32], t
     let mut second: u32 = 0;
     let mut third: u32 = 0;
     let mut fourth: u32 = 0;
-    let mut j = 0;
-    while j < rows {
+    for j in 0..rows {
         let shift = j * 4 * b;
         let row = at + j * 4;
         first += words[row] << shift;
         second += words[row + 1] << shift;
         third += words[row + 2] << shift;
         fourth += words[row + 3] << shift;
-        j += 1;
     }
     lanes[to] = first;
     lanes[to + 1] = second;
@@ -107,10 +84,8 @@ fn collect_groups(
     requires { (1 ≤ b) × (1 ≤ many) × (many * b ≤ 4) × ((start + some) * (many * 8) ≤ length words.now) × (some * 4 ≤ length lanes.old) × (coefficients_fit (2 ^ b) words.now ≡ true) }
     ensures { (g : ℕ) → g < some → lane_number b lanes.new g ≡ group_number b (many * 8) words.now (start + g) }
 {
-    let mut g = 0;
-    while g < some {
+    for g in 0..some {
         collect(words, (start + g) * (many * 8), many * 2, b, lanes, g * 4);
-        g += 1;
     }
 }
 
@@ -120,29 +95,29 @@ fn join_groups(lanes: &[u32], b: usize, many: usize, start: usize, some: usize, 
     requires lanes_fit { (g : ℕ) → g < some → lane_number b lanes.now g < 4294967296 }
     ensures { take ((start + some) * (many * b)) octets.new ≡ take (start * (many * b)) octets.old ++ encoded (many * b) (tabulate some (lane_number b lanes.now)) }
 {
-    let mut g = 0;
-    while g < some {
+    for g in 0..some {
         encoding::store(
             octets,
             (start + g) * (many * b),
             many * b,
             join(lanes, g * 4, b),
         );
-        g += 1;
     }
 }
 
 // At most 16 groups at a time, all their lanes before all their octets, so that the compiler adds whole rows of four.
-fn pack_groups_by(words: &[u32], b: usize, many: usize, groups: usize, octets: &mut [u8])
-    requires { (1 ≤ b) × (1 ≤ many) × (many * b ≤ 4) × (groups * (many * b) ≤ length octets.old) × (groups * (many * 8) ≤ length words.now) × (coefficients_fit (2 ^ b) words.now ≡ true) }
-    ensures { take (groups * (many * b)) octets.new ≡ packed b (groups * (many * b)) words.now }
+fn pack_groups_by<const B: usize>(words: &[u32], groups: usize, octets: &mut [u8])
+    requires { (1 ≤ B) × (B ≤ 4) × (groups * (4 / B * B) ≤ length octets.old) × (groups * (4 / B * 8) ≤ length words.now) × (coefficients_fit (2 ^ B) words.now ≡ true) }
+    ensures { take (groups * (4 / B * B)) octets.new ≡ packed B (groups * (4 / B * B)) words.now }
 {
+    let many = 4 / B;
     let mut lanes = [0u32; 64];
     let mut g = 0;
+    // kept as a while: a turn takes up to 16 groups
     while g < groups {
-        let some = least(groups - g, 16);
-        collect_groups(words, b, many, g, some, &mut lanes);
-        join_groups(&lanes, b, many, g, some, octets);
+        let some = (groups - g).min(16);
+        collect_groups(words, B, many, g, some, &mut lanes);
+        join_groups(&lanes, B, many, g, some, octets);
         g += some;
     }
 }
@@ -152,19 +127,12 @@ fn pack_groups(words: &[u32], b: usize, groups: usize, octets: &mut [u8])
     requires { (1 ≤ b) × (b ≤ 4) × (groups * (4 / b * b) ≤ length octets.old) × (groups * (4 / b * 8) ≤ length words.now) × (coefficients_fit (2 ^ b) words.now ≡ true) }
     ensures { take (groups * (4 / b * b)) octets.new ≡ packed b (groups * (4 / b * b)) words.now }
 {
-    if b == 1 {
-        pack_groups_by(words, 1, 4, groups, octets);
-        return;
+    match b {
+        1 => pack_groups_by::<1>(words, groups, octets),
+        2 => pack_groups_by::<2>(words, groups, octets),
+        3 => pack_groups_by::<3>(words, groups, octets),
+        _ => pack_groups_by::<4>(words, groups, octets),
     }
-    if b == 2 {
-        pack_groups_by(words, 2, 2, groups, octets);
-        return;
-    }
-    if b == 3 {
-        pack_groups_by(words, 3, 1, groups, octets);
-        return;
-    }
-    pack_groups_by(words, 4, 1, groups, octets);
 }
 
 // The octets of words below 2^b.
@@ -176,12 +144,12 @@ pub fn pack(words: &[u32], b: u32, octets: &mut [u8])
     let many = 4 / width;
     let size = many * 8;
     let len = many * width;
-    let groups = least(octets.len() / len, words.len() / size);
+    let groups = (octets.len() / len).min(words.len() / size);
     pack_groups(words, width, groups, octets);
     let at = groups * size;
     let from = groups * len;
-    let count = least(words.len() - at, size);
-    let rest = least(octets.len() - from, len);
-    encoding::store(octets, from, rest, gather(words, at, count, width));
-    clear_octets(octets, from + rest);
+    let count = (words.len() - at).min(size);
+    let rest = (octets.len() - from).min(len);
+    encoding::store(octets, from, rest, gather(&words[at..at + count], width));
+    octets[from + rest..].fill(0);
 }

@@ -1,16 +1,20 @@
 // A parameter set (01, "The parameter set", with 02, Q-7): its tests, its noise bound and headroom, and the bits of a small coefficient.
 // `SetNumbers` are the seven numbers as a caller gives them. `Parameters::new` takes them and refuses a set that fails a test with 1 to 5 or 18, the
-// first that applies; nothing wraps, whatever the numbers are. It is the only way to a set that is worked with, `Parameters`: whatever takes one
-// requires AcceptedSet of it. The contracts cite the definitions' set_tests, limits_of and small_bits, through specs/Answers.antt.
+// first that applies; nothing wraps, whatever the numbers are. It is the only way to a set that is worked with: whatever takes `Parameters` has an
+// accepted set. The contracts cite the definitions' set_tests, limits_of and small_bits, through specs/Answers.antt.
 #![tactic(auto)]
 
+mod noise;
 pub mod refusals;
 mod tests;
 
 ghost use Rattle.std.specs.Prelude.{◌≡◌};
-ghost use Rattle.definitions.specs.Parameters.{small_bits, limits_of};
+ghost use Rattle.definitions.specs.Parameters.{small_bits};
 ghost use Rattle.definitions.specs.Demand3.{AcceptedSet};
-ghost use Rattle.parameters.specs.Answers.{set_from, numbers_from, set_answer, checked_as, limits_from};
+ghost use Rattle.parameters.specs.Numbers.{numbers_from};
+
+pub use noise::limits;
+use refusals::Refusal;
 
 // The numbers of a set, tested or not: giophantus_set of the C interface.
 #[repr(C)]
@@ -25,23 +29,11 @@ pub struct SetNumbers {
     pub edition: u32,
 }
 
-// A set that the constructor accepted, wherever it stands outside this crate.
+// A set that passed its tests.
 #[derive(Clone, Copy)]
 pub struct Parameters {
-    pub l: u32,
-    pub q: u32,
-    pub n: u32,
-    pub dx: u32,
-    pub dr: u32,
-    pub mlen: u32,
-    pub edition: u32,
-}
-
-// What the constructor answers: the set, or the refusal.
-#[derive(Clone, Copy)]
-pub enum Checked {
-    Accepted(Parameters),
-    Refused(u32),
+    pub set: SetNumbers,
+    pub ghost accepted: { AcceptedSet (numbers_from set) },
 }
 
 // The noise bound B and the headroom s of an accepted set.
@@ -52,6 +44,8 @@ pub struct SetLimits {
 }
 
 impl Parameters {
+    ghost use Rattle.parameters.specs.Answers.{set_answer, checked_as};
+
     pub const L_LEAST: u32 = 2;
 
     pub const L_MOST: u32 = 16;
@@ -70,50 +64,30 @@ impl Parameters {
 
     pub const EDITION_MOST: u32 = 2;
 
+    // The set, or the first refusal that applies.
     #[tactic(auto, unfolding(crate::specs::Answers::set_answer, definitions::specs::Refusals::answer, definitions::specs::Refusals::first_refusal, definitions::specs::Parameters::set_tests))]
-    pub fn new(set: SetNumbers) -> Checked
+    pub fn new(set: SetNumbers) -> Result<Parameters, Refusal>
         ensures { checked_as result ≡ set_answer (numbers_from set) }
     {
-        let p = Parameters {
-            l: set.l,
-            q: set.q,
-            n: set.n,
-            dx: set.dx,
-            dr: set.dr,
-            mlen: set.mlen,
-            edition: set.edition,
-        };
-        if !tests::range_fits(p) {
-            return Checked::Refused(refusals::RANGE);
+        if !tests::range_fits(set) {
+            return Err(Refusal::Range);
         }
-        if !tests::ring_fits(p) {
-            return Checked::Refused(refusals::RING);
+        if !tests::ring_fits(set) {
+            return Err(Refusal::Ring);
         }
-        if !tests::degree_fits(p) {
-            return Checked::Refused(refusals::DEGREE);
+        if !tests::degree_fits(set) {
+            return Err(Refusal::Degree);
         }
-        if !tests::modulus_fits(p) {
-            return Checked::Refused(refusals::MODULUS);
+        if !tests::modulus_fits(set) {
+            return Err(Refusal::Modulus);
         }
-        if !tests::message_fits(p) {
-            return Checked::Refused(refusals::MESSAGE_SIZE);
+        if !tests::message_fits(set) {
+            return Err(Refusal::MessageSize);
         }
-        if !tests::edition_fits(p) {
-            return Checked::Refused(refusals::EDITION);
+        if !tests::edition_fits(set) {
+            return Err(Refusal::Edition);
         }
-        Checked::Accepted(p)
-    }
-}
-
-// The noise bound and the headroom.
-pub fn limits(p: Parameters) -> SetLimits
-    requires { AcceptedSet (set_from p) }
-    ensures { limits_from result ≡ limits_of (set_from p) }
-{
-    let bound = tests::capped_bound(p);
-    SetLimits {
-        bound,
-        headroom: (p.q - 1) / bound,
+        Ok(Parameters { set })
     }
 }
 

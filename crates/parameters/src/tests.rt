@@ -1,81 +1,56 @@
-// The six tests of a set, one function each, and the noise bound that the fourth compares with.
-ghost use Rattle.std.specs.Prelude.{◌≡◌, true, min};
-ghost use Rattle.definitions.specs.Parameters.{one_or_two, range_fits, ring_fits, degree_fits, modulus_fits, message_fits, edition_fits, bound};
-ghost use Rattle.parameters.specs.Answers.{set_from};
+// The six tests of a set, one function each.
+ghost use Rattle.std.specs.Prelude.{◌≡◌, true};
+ghost use Rattle.definitions.specs.Parameters.{one_or_two, range_fits, ring_fits, degree_fits, modulus_fits, message_fits, edition_fits};
+ghost use Rattle.parameters.specs.Answers.{numbers_from};
 
-use super::{Parameters, bits};
+use super::{Parameters, SetNumbers, bits, noise};
 
-pub fn range_fits(p: Parameters) -> bool
-    ensures { result ≡ range_fits (set_from p) }
+#[tactic(auto, unfolding(definitions::specs::Parameters::range_fits))]
+pub fn range_fits(set: SetNumbers) -> bool
+    ensures { result ≡ range_fits (numbers_from set) }
 {
-    (p.l == Parameters::L_LEAST) | ((p.l == 4) | ((p.l == 8) | (p.l == Parameters::L_MOST)))
+    matches!(set.l, Parameters::L_LEAST | 4 | 8 | Parameters::L_MOST)
 }
 
-pub fn ring_fits(p: Parameters) -> bool
-    ensures { result ≡ ring_fits (set_from p) }
+#[tactic(auto, unfolding(definitions::specs::Parameters::ring_fits))]
+pub fn ring_fits(set: SetNumbers) -> bool
+    ensures { result ≡ ring_fits (numbers_from set) }
 {
-    (Parameters::N_LEAST <= p.n) & (p.n <= Parameters::N_MOST)
+    (Parameters::N_LEAST..=Parameters::N_MOST).contains(&set.n)
 }
 
-pub fn degree_fits(p: Parameters) -> bool
-    ensures { result ≡ degree_fits (set_from p) }
+pub fn degree_fits(set: SetNumbers) -> bool
+    ensures { result ≡ degree_fits (numbers_from set) }
 {
-    is_degree(p.dx) & is_degree(p.dr)
+    is_degree(set.dx) & is_degree(set.dr)
 }
 
 fn is_degree(d: u32) -> bool
     ensures { result ≡ one_or_two d }
 {
-    (Parameters::DEGREE_LEAST <= d) & (d <= Parameters::DEGREE_MOST)
-}
-
-// What stands for B where B is more: no q that a set may have is larger.
-const CAP: u64 = 2147483648;
-
-// B, or 2^31 where B is more. The terms are added one by one, and the sum stops once it reaches 2^31, so every step fits 64 bits:
-// a term is at most 122,880 times the term before it, which is part of the sum.
-pub fn capped_bound(p: Parameters) -> u32
-    requires range { range_fits (set_from p) ≡ true }
-    requires ring { ring_fits (set_from p) ≡ true }
-    requires degrees { degree_fits (set_from p) ≡ true }
-    ensures { result ≡ min (bound (set_from p)) 2147483648 }
-{
-    let l = p.l as u64;
-    let n = p.n as u64;
-    let last = (p.dx + p.dr) as u64;
-    let mut sum = l - 1;
-    let mut power = l - 1;
-    let mut k = 0u64;
-    while k <= last {
-        sum += l * ((k + 1) * power);
-        if CAP <= sum {
-            return CAP as u32;
-        }
-        power *= n * (l - 1);
-        k += 1;
-    }
-    sum as u32
+    (Parameters::DEGREE_LEAST..=Parameters::DEGREE_MOST).contains(&d)
 }
 
 // The bound is compared up to 2^31, which no q reaches.
-pub fn modulus_fits(p: Parameters) -> bool
-    requires range { range_fits (set_from p) ≡ true }
-    requires ring { ring_fits (set_from p) ≡ true }
-    requires degrees { degree_fits (set_from p) ≡ true }
-    ensures { result ≡ modulus_fits (set_from p) }
+pub fn modulus_fits(set: SetNumbers) -> bool
+    requires range { range_fits (numbers_from set) ≡ true }
+    requires ring { ring_fits (numbers_from set) ≡ true }
+    requires degrees { degree_fits (numbers_from set) ≡ true }
+    ensures { result ≡ modulus_fits (numbers_from set) }
 {
-    (p.q <= Parameters::Q_MOST) & (capped_bound(p) < p.q)
+    (set.q <= Parameters::Q_MOST) & (noise::capped_bound(set) < set.q)
 }
 
-pub fn message_fits(p: Parameters) -> bool
-    ensures { result ≡ message_fits (set_from p) }
+pub fn message_fits(set: SetNumbers) -> bool
+    ensures { result ≡ message_fits (numbers_from set) }
 {
-    let b = bits(p.l);
-    ((p.mlen as u64) <= (p.n as u64) * (b as u64)) & (p.mlen % b == 0)
+    let b = bits(set.l);
+    ((set.mlen as u64) <= (set.n as u64) * (b as u64)) & (set.mlen % b == 0)
 }
 
-pub fn edition_fits(p: Parameters) -> bool
-    ensures { result ≡ edition_fits (set_from p) }
+#[tactic(auto, unfolding(definitions::specs::Parameters::edition_fits))]
+pub fn edition_fits(set: SetNumbers) -> bool
+    ensures { result ≡ edition_fits (numbers_from set) }
 {
-    (Parameters::EDITION_LEAST <= p.edition) & (p.edition <= Parameters::EDITION_MOST)
+    (Parameters::EDITION_LEAST..=Parameters::EDITION_MOST).contains(&set.edition)
 }

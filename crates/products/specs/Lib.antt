@@ -1,2 +1,2 @@
--- What a product asks and gives, and how it is halved.
+-- What a product asks and gives.
 pub mod Products

@@ -9,8 +9,7 @@ ghost use Rattle.std.specs.Prelude.{◌≡◌, ℕ, ◌+◌, ◌*◌, ◌%◌, �
 ghost use Rattle.definitions.specs.Sequences.{tabulate};
 ghost use Rattle.definitions.specs.Ring.{InRing, element_of};
 ghost use Rattle.ring.specs.Work.{part, written, Apart, product_added};
-ghost use Rattle.reduction.specs.Moduli.{Reciprocal};
-ghost use Rattle.products.specs.Products.{ProductFits, with_product, MultipliedInPlace, Fit};
+ghost use Rattle.products.specs.Products.{ProductFits, with_product, MultipliedInPlace};
 
 use karatsuba::Halving;
 use reduction::Modulus;
@@ -31,18 +30,19 @@ struct Product {
 // How a product of n coefficients is halved: to the fewest leaves, twice as many until they are short enough.
 fn split(n: usize) -> Halving
     requires { n ≤ 4096 }
-    ensures { Fit n result }
+    ensures { n ≤ result.m }
 {
     let mut levels = 0;
     let mut leaves = 1;
+    // Kept as a while: it doubles, and counts no index.
     while 80 * leaves < n {
         levels += 1;
         leaves += leaves;
     }
-    let leaf = (n + (leaves - 1)) / leaves;
+    let leaf = n.div_ceil(leaves);
     Halving {
-        levels: levels,
-        leaf: leaf,
+        levels,
+        leaf,
         m: leaf * leaves,
     }
 }
@@ -61,26 +61,22 @@ fn fold(work: &mut [u32], c: usize, n: usize, q: u32, words: &[u32], at: usize)
     requires in_ring { InRing q n (part work.old c) × InRing q (n + n) (part words.now at) }
     ensures { work.new ≡ written c (tabulate n (λ k. (part words.now at k + part words.now at (n + k) + part work.old c k) % q)) work.old }
 {
-    let mut k = 0;
-    while k < n {
+    for k in 0..n {
         let low = words[at + k];
         let high = words[at + (n + k)];
         work[c + k] = folded(low, high, work[c + k], q);
-        k += 1;
     }
 }
 
 // The same of sums that are not reduced yet: the two of a place are reduced together, and then c is added.
 fn fold_sums(work: &mut [u32], c: usize, n: usize, modulus: Modulus, low: &[u64])
-    requires n_in_bounds { (c + n ≤ length work.old) × (n + n ≤ length low.now) × Reciprocal modulus × InRing modulus.q n (part work.old c) }
+    requires n_in_bounds { (c + n ≤ length work.old) × (n + n ≤ length low.now) × InRing modulus.q n (part work.old c) }
     requires sums_fit { (k : ℕ) → k < n → get_or low.now k 0 + get_or low.now (n + k) 0 < 18446744073709551616 }
     ensures { work.new ≡ written c (tabulate n (λ k. (get_or low.now k 0 + get_or low.now (n + k) 0 + part work.old c k) % modulus.q)) work.old }
 {
-    let mut k = 0;
-    while k < n {
+    for k in 0..n {
         let s = reduction::remainder(low[k] + low[n + k], modulus);
         work[c + k] = ring::sum(s, work[c + k], modulus.q);
-        k += 1;
     }
 }
 
@@ -97,7 +93,7 @@ fn short(work: &mut [u32], p: Product, modulus: Modulus)
 // The product of p in a list of its own: a from 0 on and b from m on, each filled up with 0, their product from 2 m on, and behind it the words
 // that Karatsuba's product needs.
 fn multiply_in(work: &mut [u32], p: Product, modulus: Modulus, h: Halving, words: &mut [u32])
-    requires { ProductFits p modulus work.old × Fit p.n h × (6 * h.m ≤ length words.old) × InRing 1 (2 * h.m) (element_of words.old) }
+    requires { ProductFits p modulus work.old × (p.n ≤ h.m) × (6 * h.m ≤ length words.old) × InRing 1 (2 * h.m) (element_of words.old) }
     ensures { work.new ≡ with_product p modulus.q work.old }
 {
     let m = h.m;
@@ -109,25 +105,28 @@ fn multiply_in(work: &mut [u32], p: Product, modulus: Modulus, h: Halving, words
     fold(work, p.c, p.n, modulus.q, words, at);
 }
 
+// The same in an array of zeros of so many words.
+fn multiply_in_array<const WORDS: usize>(work: &mut [u32], p: Product, modulus: Modulus, h: Halving)
+    requires { ProductFits p modulus work.old × (p.n ≤ h.m) × (6 * h.m ≤ WORDS) × (WORDS ≤ 24576) }
+    ensures { work.new ≡ with_product p modulus.q work.old }
+{
+    let mut words = [0u32; WORDS];
+    multiply_in(work, p, modulus, h, &mut words);
+}
+
 // The same in an array of the least of three sizes: clearing it then costs little beside the product.
 fn multiply_long(work: &mut [u32], p: Product, modulus: Modulus)
     requires { ProductFits p modulus work.old × (p.n ≤ 4096) }
     ensures { work.new ≡ with_product p modulus.q work.old }
 {
     let h = split(p.n);
-    let m = h.m;
-    if m <= 80 {
-        let mut words = [0u32; 480];
-        multiply_in(work, p, modulus, h, &mut words);
-        return;
+    if h.m <= 80 {
+        multiply_in_array::<480>(work, p, modulus, h);
+    } else if h.m <= 1280 {
+        multiply_in_array::<7680>(work, p, modulus, h);
+    } else {
+        multiply_in_array::<24576>(work, p, modulus, h);
     }
-    if m <= 1280 {
-        let mut words = [0u32; 7680];
-        multiply_in(work, p, modulus, h, &mut words);
-        return;
-    }
-    let mut words = [0u32; 24576];
-    multiply_in(work, p, modulus, h, &mut words);
 }
 
 // In place c := a × b + c in R_q; b's coefficients are below top: q, or less for a small factor. a and b, which may be one, stay, and so do
@@ -139,18 +138,10 @@ pub fn multiply_add(work: &mut [u32], a: usize, b: usize, c: usize, n: usize, q:
     ensures multiplied_in_place { MultipliedInPlace q n a b c work.old work.new }
 {
     let modulus = reduction::with_reciprocal(q);
-    let p = Product {
-        a: a,
-        b: b,
-        c: c,
-        n: n,
-        top: top,
-    };
-    if n <= SHORT {
-        if (q as u64) * (top as u64) <= rows::UNCUT {
-            short(work, p, modulus);
-            return;
-        }
+    let p = Product { a, b, c, n, top };
+    if n <= SHORT && (q as u64) * (top as u64) <= rows::UNCUT {
+        short(work, p, modulus);
+    } else {
+        multiply_long(work, p, modulus);
     }
-    multiply_long(work, p, modulus);
 }

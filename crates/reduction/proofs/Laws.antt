@@ -2,19 +2,12 @@
 -- Assumes nothing.
 use Prim.Native.Nat.{ℕ, ◌+◌, ◌-◌, ◌*◌, ◌/◌, ◌%◌, ◌≤◌, ◌<◌}
 use native.Mathlib.Nat.{le_of_lt, mod-lt, div-add-mod, mul-div-le, lt-mul-div-succ}
-use native.Mathlib.Nat.{mul-le-mul, mul-le-mul_left, mul-le-mul_right, mul-lt-mul_of_pos_right, le_of_mul-le-mul_right, lt_of_mul-lt-mul_right}
+use native.Mathlib.Nat.{mul-le-mul_left, mul-le-mul_right, mul-lt-mul_of_pos_right, le_of_mul-le-mul_right, lt_of_mul-lt-mul_right}
 use native.Mathlib.Omega.{arith}
 use mathlib.Core.Path.{◌≡◌, sym, ◌∙◌, ap}
 use lib.Arith.{digits_div, digits_lt, digits_mod}
 
 -- ---- the high half of a product
-
--- the product of two parts of a word
-pub parts_small : {a b : ℕ} → a < 4294967296 → b < 4294967296 → a * b ≤ 18446744065119617025
-parts_small {a} {b} h l =
-    let x : a ≤ 4294967295 = omega arith in
-    let y : b ≤ 4294967295 = omega arith in
-    mul-le-mul x y
 
 -- from the products of the parts, with the carries: x out of the low product, m1 and o1 out of the two middle ones
 parts_div : (r a1 a0 b1 b0 x l m1 m0 o1 o0 : ℕ) → a0 * b0 ≡ r * x + l → a1 * b0 + x ≡ r * m1 + m0 → a0 * b1 + m0 ≡ r * o1 + o0 → l < r → o0 < r

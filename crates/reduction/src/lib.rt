@@ -10,6 +10,7 @@ ghost use Rattle.reduction.specs.Moduli.{Reciprocal};
 pub struct Modulus {
     pub q: u32,
     pub reciprocal: u64,
+    pub ghost exact: { Reciprocal q reciprocal },
 }
 
 // The parts of a word are its low and its high 32 bits: 2^32.
@@ -30,17 +31,16 @@ fn high_half(a: u64, b: u64) -> u64
 
 pub fn with_reciprocal(q: u32) -> Modulus
     requires { (0 < q) × (q < 2147483648) }
-    ensures { (result.q ≡ q) × Reciprocal result }
+    ensures { (result.q ≡ q) × Reciprocal result.q result.reciprocal }
 {
     Modulus {
-        q: q,
-        reciprocal: 18446744073709551615 / (q as u64),
+        q,
+        reciprocal: u64::MAX / (q as u64),
     }
 }
 
 // s modulo q.
 pub fn remainder(s: u64, m: Modulus) -> u32
-    requires { Reciprocal m }
     ensures { result ≡ s % m.q }
 {
     let q = m.q;

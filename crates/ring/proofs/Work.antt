@@ -1,22 +1,24 @@
 -- What stands where after a list was written over the work words: the list inside, the old words before and after it.
 --
---   WritingWords     how far a loop that writes one word a turn has come
+--   WritingWords     how far a loop that writes one word a turn has come;  WritingReturns: one that writes what a call returns
 --   Wrote            what a list written over the words leaves at each place
 -- Assumes nothing.
 use Prim.Native.Nat.{ℕ, suc, ◌+◌, ◌-◌, ◌≤◌, ◌<◌, zero-le}
 use native.Mathlib.Nat.{add-zero}
 use native.Mathlib.Numerals.{add-one}
 use native.Mathlib.Omega.{arith}
-use mathlib.Core.Path.{◌≡◌, refl, sym, ◌∙◌, ap, ap₂, subst}
+use mathlib.Core.Path.{◌≡◌, refl, sym, ◌∙◌, ap, subst}
 use mathlib.Core.Logic.{⊎_elim}
 use mathlib.Core.List.{List, [], ◌∷◌, ◌++◌, append_assoc}
+use borrow.Author.Count.{below_more}
+use Rattle.std.proofs.lemmas.List.{get_or-set_same, get_or-set_other}
 use lib.ListN.{length, get_or, take, drop, set, length-append, length-set, length-take, length-drop, take-append-drop, get_or-append}
 use lib.Seq.{drop-cons, set_at, take_all, take_at, drop_at, get_or-append-add, get_or-take, get_or-drop, length-take-le}
 use Rattle.definitions.specs.Sequences.{tabulate}
 use Rattle.definitions.specs.Ring.{InRing}
-use Rattle.definitions.proofs.Sums.{length-tabulate, get_or_tabulate}
+use Rattle.definitions.proofs.Sums.{length-tabulate, get_or_tabulate, tabulate_cong, tabulate-get_or}
 use Rattle.definitions.proofs.Filling.{tabulate_snoc}
-use Rattle.ring.specs.Work.{part, written, Apart}
+use Rattle.ring.specs.Work.{part, written, ReturnsWritten, Apart}
 
 pub length-written : (at : ℕ) (new old : List ℕ) → at + length new ≤ length old → length (written at new old) ≡ length old
 unfolding written
@@ -107,9 +109,6 @@ module _ {at n : ℕ} {f : ℕ → ℕ} {old : List ℕ} {k : ℕ} {new : List �
   pub writing_own_ring : {q : ℕ} → InRing q n (part old at) → k < n → part new at k < q
   writing_own_ring ring l = rw writing_own (ring k l)
 
-  pub writing_apart_ring : {q : ℕ} (from : ℕ) → Apart at from n → InRing q n (part old from) → {j : ℕ} → j < n → part new from j < q
-  writing_apart_ring from apart ring {j} l = rw (writing_apart from apart l) (ring j l)
-
   pub writing_all : n ≤ k → new ≡ written at (tabulate n f) old
   writing_all l =
       let e : k ≡ n = omega (arith, w.turns) in
@@ -120,16 +119,64 @@ pub writing_one : (g : ℕ → ℕ → ℕ) {at n k : ℕ} {old new : List ℕ} 
     → v ≡ g k (part new at k) → WritingWords at n (λ j. g j (part old at j)) old (k + 1) (set new (at + k) v)
 writing_one g {k = k} w l e = writing_more w refl l (e ∙ ap (g k) (writing_own w))
 
--- a turn that writes g of that word and of the word at the same place of another part
-pub writing_both : (g : ℕ → ℕ → ℕ) {at n k : ℕ} (from : ℕ) {old new : List ℕ} {v : ℕ} → Apart at from n
-    → WritingWords at n (λ j. g (part old at j) (part old from j)) old k new → k < n
-    → v ≡ g (part new at k) (part new from k) → WritingWords at n (λ j. g (part old at j) (part old from j)) old (k + 1) (set new (at + k) v)
-writing_both g from apart w l e = writing_more w refl l (e ∙ ap₂ g (writing_own w) (writing_apart w from apart l))
+-- ---- a loop that writes what a call returns: P j r says that the call of place j may return r
+pub record WritingReturns (at n : ℕ) (P : ℕ → ℕ → Type 0) (old : List ℕ) (k : ℕ) (new : List ℕ) : Type 0 where
+  pub writing : WritingWords at n (part new at) old k new
+  pub returned : (j : ℕ) → j < k → P j (part new at j)
+
+pub returns_none : {at n : ℕ} {P : ℕ → ℕ → Type 0} {old : List ℕ} → at + n ≤ length old → WritingReturns at n P old 0 old
+returns_none h = record { writing = writing_none h; returned = λ j l. absurd (omega arith) }
+
+written_cong : (at k : ℕ) {f g : ℕ → ℕ} (old : List ℕ) → ((j : ℕ) → j < k → f j ≡ g j) → written at (tabulate k f) old ≡ written at (tabulate k g) old
+written_cong at k old h = ap (λ (l : List ℕ). written at l old) (tabulate_cong k h)
+
+module _ {at n : ℕ} {P : ℕ → ℕ → Type 0} {old : List ℕ} {k : ℕ} {new : List ℕ} (w : WritingReturns at n P old k new) where
+  pub returns_more : {r : ℕ} → k < n → P k r → WritingReturns at n P old (k + 1) (set new (at + k) r)
+  returns_more {r} l p =
+      record {
+        writing = writing_more (record { turns = w.writing.turns; room = w.writing.room; as_long = w.writing.as_long; same = w.writing.same ∙ written_cong at k old (λ j s. sym (other j s)) })
+            refl l (sym here);
+        returned = below_more (λ j. P j (part (set new (at + k) r) at j)) k (λ j s. rw (other j s) (w.returned j s)) (rw here p);
+      }
+    where
+      here : part (set new (at + k) r) at k ≡ r
+      here = get_or-set_same new (at + k) r 0 (omega (arith, w.writing.room, w.writing.as_long))
+
+      other : (j : ℕ) → j < k → part (set new (at + k) r) at j ≡ part new at j
+      other j s = get_or-set_other new (at + k) (at + j) r 0 (λ e. omega arith)
+
+  pub returns_all : n ≤ k → ReturnsWritten at n P old new
+  returns_all l v tied = writing_all w.writing l ∙ written_cong at n old (λ j s. tied j _ s (w.returned j (omega arith)))
+
+-- what may be asked of the old words of two parts may be asked of the word that a turn writes and of any word of the other part
+pub asked_both : (P : ℕ → ℕ → Type 0) {at n k : ℕ} (from : ℕ) {f : ℕ → ℕ} {old new : List ℕ} → Apart at from n → WritingWords at n f old k new
+    → ((i j : ℕ) → i < n → j < n → P (part old at i) (part old from j)) → k < n → {j : ℕ} → j < n → P (part new at k) (part new from j)
+asked_both P from apart w h l s = rw (writing_own w, writing_apart w from apart s) (h _ _ l s)
+
+-- a turn that writes what may be returned of its place and of the word that stands there
+pub returns_one : (P : ℕ → ℕ → ℕ → Type 0) {at n k : ℕ} {old new : List ℕ} {r : ℕ} → WritingReturns at n (λ j. P j (part old at j)) old k new → k < n
+    → P k (part new at k) r → WritingReturns at n (λ j. P j (part old at j)) old (k + 1) (set new (at + k) r)
+returns_one P w l p = returns_more w l (rw (writing_own w.writing) at p)
+
+-- and of the word at the same place of another part
+pub returns_both : (P : ℕ → ℕ → ℕ → Type 0) {at n k : ℕ} (from : ℕ) {old new : List ℕ} {r : ℕ} → Apart at from n
+    → WritingReturns at n (λ j. P (part old at j) (part old from j)) old k new → k < n
+    → P (part new at k) (part new from k) r → WritingReturns at n (λ j. P (part old at j) (part old from j)) old (k + 1) (set new (at + k) r)
+returns_both P from apart w l p = returns_more w l (rw (writing_own w.writing, writing_apart w.writing from apart l) at p)
 
 -- ---- the element at an offset
 pub part-written : (at n : ℕ) (f : ℕ → ℕ) (old : List ℕ) {k : ℕ} → at ≤ length old → k < n → part (written at (tabulate n f) old) at k ≡ f k
 part-written at n f old {k} h l =
     get_or-written at (tabulate n f) old h (subst (λ (m : ℕ). k < m) (sym (length-tabulate n f)) l) ∙ get_or_tabulate n f 0 l
+
+-- the words of a part
+pub part_words : (at n : ℕ) (old : List ℕ) → at + n ≤ length old → take n (drop at old) ≡ tabulate n (part old at)
+part_words at n old h =
+    let words : List ℕ = take n (drop at old) in
+    let long : length words ≡ n = simp (length-take, length-drop) (omega arith) in
+    sym (tabulate-get_or words 0)
+    ∙ ap (λ (m : ℕ). tabulate m (λ i. get_or words i 0)) long
+    ∙ tabulate_cong n (λ k l. get_or-take n (drop at old) k 0 l ∙ get_or-drop at old k 0)
 
 -- the words from an offset on, after they were written
 pub written-part : (at n : ℕ) (f : ℕ → ℕ) (old : List ℕ) → at ≤ length old → take (at + n - at) (drop at (written at (tabulate n f) old)) ≡ tabulate n f

@@ -1,37 +1,25 @@
--- Why looking at each word in turn tells whether all are 0.
---
---   vanishes-..      a word that is not 0; and the end, where none was found
+-- A test of each number in a range is the test at every place: the first and the rest, or those before and the last.
 -- Assumes nothing.
-use Prim.Native.Nat.{ℕ, ◌+◌, ◌-◌, ◌≤◌, ◌<◌}
-use mathlib.Core.Path.{◌≡◌, sym, ap, ◌∙◌}
-use mathlib.Core.Bool.{cond}
-use mathlib.Core.List.{List}
-use native.Mathlib.Decide.{ℕ_discrete}
+use Prim.Native.Nat.{ℕ, zero, suc, ◌+◌}
+use native.Mathlib.Nat.{add-zero}
 use native.Mathlib.Omega.{arith}
-use borrow.Author.Tests.{eq-eqb, ne_eqb}
-use lib.Dec.{eqb}
-use lib.ListN.{get_or}
+use mathlib.Core.Path.{◌≡◌, refl, sym, ap, ◌∙◌}
+use mathlib.Core.Bool.{Bool, true, false, ◌&&◌}
+use Rattle.std.proofs.Math.Bool.{and_assoc}
+use Rattle.std.specs.List.{list_all, range_with_len}
 use Rattle.definitions.specs.Sequences.{every}
-use Rattle.definitions.proofs.Sums.{every_true, every_false}
-use Rattle.ring.specs.Work.{part}
+use Rattle.definitions.proofs.Sums.{every_cong}
 
-module _ (work : List ℕ) (from end : ℕ) where
-  abbrev pub ZeroTo : ℕ → Type 0
-  ZeroTo i = (j : ℕ) → from ≤ j → j < i → get_or work j 0 ≡ 0
+every-first : (n : ℕ) (f : ℕ → Bool) → every (suc n) f ≡ (f 0 && every n (λ k. f (suc k)))
+unfolding every
+every-first zero f = elim (f 0) as (λ b. (true && b) ≡ (b && true)) [ true ↦ refl | false ↦ refl ]
+every-first (suc n) f =
+    ap (λ (b : Bool). b && f (suc n)) (every-first n f) ∙ and_assoc (f 0) (every n (λ k. f (suc k))) (f (suc n))
 
-  pub zero_to_more : (i : ℕ) → ZeroTo i → get_or work i 0 ≡ 0 → ZeroTo (i + 1)
-  zero_to_more i h e j lo hi =
-      elim (ℕ_discrete j i) [
-        | yes s ↦ rw s e
-        | no g ↦ h j lo (omega arith)
-      ]
-
-  pub vanishes_all : (i : ℕ) → end ≤ i → ZeroTo i → ◌≡◌ {A = ℕ} 1 (cond (every (end - from) (λ k. eqb (part work from k) 0)) 1 0)
-  vanishes_all i past h =
-      rw (every_true (end - from) {f = λ k. eqb (part work from k) 0} (λ k l. eq-eqb (part work from k) 0 (h (from + k) (omega arith) (omega arith))))
-
-  pub vanishes_not : (i : ℕ) → from ≤ i → i < end → (get_or work i 0 ≡ 0 → ⊥) → ◌≡◌ {A = ℕ} 0 (cond (every (end - from) (λ k. eqb (part work from k) 0)) 1 0)
-  vanishes_not i lo hi h =
-      let here : from + (i - from) ≡ i = omega arith in
-      let set : part work from (i - from) ≡ 0 → ⊥ = λ z. h (ap (λ (j : ℕ). get_or work j 0) (sym here) ∙ z) in
-      rw (every_false (end - from) (λ k. eqb (part work from k) 0) {k = i - from} (omega arith) (ne_eqb (part work from (i - from)) 0 set))
+pub range-every : (test : ℕ → Bool) (from n : ℕ) → list_all test (range_with_len from n) ≡ every n (λ k. test (from + k))
+range-every test from zero = unfold every in refl
+range-every test from (suc n) =
+    ap (λ (b : Bool). test from && b)
+    (range-every test (from + 1) n ∙ every_cong n (λ k l. ap test (omega arith)))
+    ∙ ap (λ (j : ℕ). test j && every n (λ k. test (from + suc k))) (sym (add-zero from))
+    ∙ sym (every-first n (λ k. test (from + k)))

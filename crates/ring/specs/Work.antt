@@ -2,6 +2,8 @@
 --
 --   part             the element that stands at an offset
 --   written          the words with a list written over them from an offset on; all others as they were
+--   ReturnsWritten   what calls return is written, n words from an offset on; P k r says that the call of place k may return r, and where
+--                    that allows v k alone, v is what is written
 --   Apart            two parts of n words have no word in common
 --   product_added     c := a × b + c in R_q, the three given by their offsets
 --   element_added     c := c + e in R_q; element_taken: c := c - e
@@ -9,7 +11,7 @@
 --   scaled_added      c := c + l × e in R_q
 --   negated          a := -a in R_q
 -- Assumes nothing.
-use Rattle.std.specs.Prelude.{ℕ, ◌+◌, ◌-◌, ◌*◌, ◌%◌, ◌≤◌, ◌⊎◌, List, ◌++◌, get_or, take, drop, length}
+use Rattle.std.specs.Prelude.{ℕ, ◌+◌, ◌-◌, ◌*◌, ◌%◌, ◌<◌, ◌≤◌, ◌≡◌, ◌⊎◌, List, ◌++◌, get_or, take, drop, length}
 use Rattle.definitions.specs.Sequences.{tabulate}
 use Rattle.definitions.specs.Ring.{Element, multiply_add}
 
@@ -18,6 +20,9 @@ part work at k = get_or work (at + k) 0
 
 unfoldable pub written : ℕ → List ℕ → List ℕ → List ℕ
 written at new old = take at old ++ (new ++ drop (at + length new) old)
+
+abbrev pub ReturnsWritten : ℕ → ℕ → (ℕ → ℕ → Type 0) → List ℕ → List ℕ → Type 0
+ReturnsWritten at n P old new = (v : Element) → ((k r : ℕ) → k < n → P k r → r ≡ v k) → new ≡ written at (tabulate n v) old
 
 abbrev pub Apart : ℕ → ℕ → ℕ → Type 0
 Apart a b n = (a + n ≤ b) ⊎ (b + n ≤ a)

@@ -2,16 +2,19 @@
 --
 --   set_of-take           six words or more from the front of some name the same set but for the edition
 --   answered-..          the text of what a set's constructor answered is that of the set's answer
---   line-..              the answer to a line of six numbers, of seven, and of any other
+--   named_..             the set that a line of six numbers names, or of seven
+--   answer_..            the answer to a line that names a set, and to any other
 -- Assumes nothing.
 use Prim.Native.Nat.{ℕ, ◌≤◌, ◌<◌}
 use native.Mathlib.Omega.{arith}
 use mathlib.Core.Path.{◌≡◌, sym, ap, ◌∙◌}
-use mathlib.Core.Bool.{true, false, ◌||◌, or-true}
+use mathlib.Core.Bool.{◌||◌, or-true}
 use mathlib.Core.List.{List, []}
 use lib.ListN.{length, get_or, take, length-take, get_or-eq_default}
 use lib.Seq.{get_or-take, get_or_at, take-suc, length-take-le}
-use borrow.Author.Tests.{eq-eqb, ne_eqb}
+use borrow.Author.Tests.{eq-eqb}
+use Rattle.std.specs.Prelude.{IsTrue, Some, Result, Ok, Err}
+use Rattle.std.proofs.lemmas.Bool.{false_from_ne_true}
 use Rattle.definitions.specs.Refusals.{accepted}
 use Rattle.definitions.specs.Parameters.{Parameters, limits_answer, limits_of}
 use Rattle.definitions.specs.Roomsheet.{Text, decimal_text, well_formed, numbers_of, set_of, limits_text, line_answer}
@@ -20,7 +23,8 @@ use Rattle.definitions.proofs.Roomsheet.{line_answer_malformed, line_answer-set}
 use Rattle.parameters.specs.Answers.{set_from, limits_from, set_answer, checked_as}
 use Rattle.parameters.specs.declared.Parameters as Struct
 use Rattle.parameters.specs.declared.SetLimits.{SetLimits}
-use Rattle.parameters.specs.declared.Checked.{Checked}
+use Rattle.parameters.specs.declared.refusals.Refusal.{Refusal}
+use Rattle.parameters.specs.Refusals.{refusal_number}
 use Rattle.parameters.proofs.Answers.{accepted-answer, refused-answer}
 use Rattle.roomsheet_parse.specs.Numbers.{NumbersRead}
 
@@ -32,42 +36,40 @@ set_of-take k x h =
 
 -- ---- a set
 
-module _ (set : Parameters) {r : Checked} (told : checked_as r ≡ set_answer set) where
-  pub answered-refused : (k : ℕ) → r ≡ Checked.Refused k → decimal_text k ≡ limits_text (limits_answer set)
+module _ (set : Parameters) {r : Result Struct.Parameters Refusal} (told : checked_as r ≡ set_answer set) where
+  pub answered-refused : (k : Refusal) → r ≡ Err k → decimal_text (refusal_number k) ≡ limits_text (limits_answer set)
   unfolding limits_text limits_answer
   answered-refused k same = ap limits_text (refused-answer set told same _)
 
-  pub answered-accepted : (p : Struct.Parameters) → r ≡ Checked.Accepted p → (x : SetLimits) → limits_from x ≡ limits_of (set_from p)
+  pub answered-accepted : (p : Struct.Parameters) → r ≡ Ok p → (x : SetLimits) → limits_from x ≡ limits_of (set_from p)
       → limits_text (accepted (limits_from x)) ≡ limits_text (limits_answer set)
   unfolding limits_answer
   answered-accepted p same x is = ap limits_text (accepted-answer set told same limits_of (limits_from x) is)
 
 -- ---- a line
 
-module _ (line : Text) (read : ℕ) (x : List ℕ) (n : NumbersRead 7 line read x) where
-  pub line_malformed : (read ≡ 6 → ⊥) → (read ≡ 7 → ⊥) → decimal_text 11 ≡ line_answer line
-  line_malformed six seven =
-      let no_six : well_formed 6 line ≡ false = sym (n.told 6 (omega arith) (omega arith)) ∙ ne_eqb read 6 six in
-      let no_seven : well_formed 7 line ≡ false = sym (n.told 7 (omega arith) (omega arith)) ∙ ne_eqb read 7 seven in
-      sym (line_answer_malformed line (rw (no_six, no_seven)))
+module _ (line : Text) where
+  -- the answer to a line that names a set, and to any other
+  pub answer_named : (set : Parameters) → IsTrue (well_formed 6 line || well_formed 7 line) × (set ≡ set_of (numbers_of line))
+      → limits_text (limits_answer set) ≡ line_answer line
+  answer_named set named = ap (λ (p : Parameters). limits_text (limits_answer p)) named.1 ∙ sym (line_answer-set line named.0)
 
-  -- a line of six or seven numbers is answered as the set that they name
-  module _ (set : Parameters) where
-    named : (k : ℕ) → 6 ≤ k → read ≡ k → (well_formed 6 line || well_formed 7 line) ≡ true → set ≡ in_edition (get_or (take k x) 6 1) (set_of x)
-        → limits_text (limits_answer set) ≡ line_answer line
-    named k h is well same =
-        let numbers : take k x ≡ numbers_of line = rw is at (n.numbers_are (omega arith)) in
-        ap (λ (p : Parameters). limits_text (limits_answer p)) (same ∙ sym (set_of-take k x h) ∙ ap set_of numbers) ∙ sym (line_answer-set line well)
+  pub answer_malformed : (IsTrue (well_formed 6 line || well_formed 7 line) → ⊥) → decimal_text 11 ≡ line_answer line
+  answer_malformed none = sym (line_answer_malformed line (false_from_ne_true _ none))
 
-    pub line-six : read ≡ 6 → set ≡ in_edition 1 (set_of x) → limits_text (limits_answer set) ≡ line_answer line
-    line-six is same =
-        let well : well_formed 6 line ≡ true = sym (n.told 6 (omega arith) (omega arith)) ∙ eq-eqb read 6 is in
-        let edition : get_or (take 6 x) 6 1 ≡ 1 = get_or-eq_default (take 6 x) 1 (omega (arith, length-take 6 x)) in
-        named 6 (omega arith) is (rw well) (rw edition same)
+  module _ (read : ℕ) (x : List ℕ) (n : NumbersRead 7 line (Some read) x) where
+    -- a line of six or seven numbers names the set of those words
+    module _ (set : Parameters) where
+      named : (k : ℕ) → 6 ≤ k → read ≡ k → set ≡ in_edition (get_or (take k x) 6 1) (set_of x) → set ≡ set_of (numbers_of line)
+      named k h is same = same ∙ sym (set_of-take k x h) ∙ ap set_of (rw is at n.2)
 
-    pub line-seven : 6 < length x → read ≡ 7 → set ≡ in_edition (get_or x 6 0) (set_of x) → limits_text (limits_answer set) ≡ line_answer line
-    line-seven room is same =
-        let well : well_formed 7 line ≡ true = sym (n.told 7 (omega arith) (omega arith)) ∙ eq-eqb read 7 is in
-        let edition : get_or (take 7 x) 6 1 ≡ get_or x 6 0
-        = ap (λ (l : List ℕ). get_or l 6 1) (take-suc x 6 0 room) ∙ get_or_at (take 6 x) (get_or x 6 0) [] 1 6 (length-take-le 6 x (omega arith)) in
-        named 7 (omega arith) is (rw well (or-true (well_formed 6 line))) (rw edition same)
+      pub named_six : read ≡ 6 → set ≡ in_edition 1 (set_of x) → IsTrue (well_formed 6 line || well_formed 7 line) × (set ≡ set_of (numbers_of line))
+      named_six is same =
+          let edition : get_or (take 6 x) 6 1 ≡ 1 = get_or-eq_default (take 6 x) 1 (omega (arith, length-take 6 x)) in
+          (rw (sym (n.1 6) ∙ eq-eqb read 6 is), named 6 (omega arith) is (rw edition same))
+
+      pub named_seven : read ≡ 7 → 6 < length x → set ≡ in_edition (get_or x 6 0) (set_of x) → IsTrue (well_formed 6 line || well_formed 7 line) × (set ≡ set_of (numbers_of line))
+      named_seven is room same =
+          let edition : get_or (take 7 x) 6 1 ≡ get_or x 6 0
+          = ap (λ (l : List ℕ). get_or l 6 1) (take-suc x 6 0 room) ∙ get_or_at (take 6 x) (get_or x 6 0) [] 1 6 (length-take-le 6 x (omega arith)) in
+          (rw (sym (n.1 7) ∙ eq-eqb read 7 is) (or-true (well_formed 6 line)), named 7 (omega arith) is (rw edition same))

@@ -1,94 +1,67 @@
 -- What is written behind what a buffer holds.
 --
---   appended_octet       one octet
 --   appended_append      two texts, one after the other
 --   decimal_length-le     a number has at most 10 digits
 --   decimal_text-le, limits_text-le     so a number takes at most 10 octets, and an answer 32
---   Counting             what holds after k powers of ten are compared
+--   powers_more, powers_reached     how many digits, by a table of the powers of ten
 --   Writing              what holds where the last digits of a number are written;  writing_start, -next, -end
 -- Assumes nothing.
-use Prim.Native.Nat.{ℕ, zero, suc, ◌+◌, ◌-◌, ◌*◌, ◌/◌, ◌%◌, ◌^◌, ◌≤◌, ◌<◌}
-use native.Mathlib.Nat.{div-one, div-div-eq-div-mul, pow-suc, pow-le-pow_right}
-use native.Mathlib.Numerals.{add-one}
+use Prim.Native.Nat.{ℕ, zero, suc, ◌+◌, ◌-◌, ◌/◌, ◌%◌, ◌^◌, ◌≤◌, ◌<◌}
+use native.Mathlib.Nat.{div-one, div-div-eq-div-mul, pow-suc}
 use native.Mathlib.Omega.{arith}
-use mathlib.Core.Path.{◌≡◌, refl, sym, ap, ap₂, ◌∙◌}
+use mathlib.Core.Path.{◌≡◌, sym, ap, ap₂, ◌∙◌}
 use mathlib.Core.Bool.{Bool, true, false, cond}
 use mathlib.Core.List.{List, [], ◌∷◌, ◌++◌, append_assoc}
 use lib.Dec.{leb}
-use mir.Val.{bool_byte}
-use lib.ListN.{length, take, drop, set, length-append, length-set}
-use lib.Seq.{take-suc-set, take-set-le, take-add, drop-cons, drop-set-lt, get_or-set_same}
+use lib.ListN.{length, get_or, take, drop, set, length-append, length-set, drop_of_length-le}
+use lib.Seq.{drop-cons, drop-set-lt, get_or-set_same}
+use native.Mathlib.Decide.{dec_lt}
+use borrow.Author.Tests.{le-leb, lt-leb}
+use Rattle.std.specs.List.{count_by}
+use Rattle.std.proofs.lemmas.List.Sums.{count_by_more_yes, count_by_more_no}
 use Rattle.definitions.specs.Sequences.{sum, how_many, tabulate}
 use Rattle.definitions.specs.Refusals.{Answer, untouched, refused, accepted}
 use Rattle.definitions.specs.Parameters.{Limits}
 use Rattle.definitions.specs.Roomsheet.{Text, decimal_length, decimal_text, limits_text}
 use Rattle.definitions.proofs.Roomsheet.{digits, digits_suc, length-decimal_text}
+use Rattle.roomsheet_print.specs.declared.Answers.{Answers}
 use Rattle.roomsheet_print.specs.Appended.{Appended}
 
-pub appended_octet : (out : List ℕ) (at c : ℕ) → at < length out → Appended out at (set out at c) (at + 1) (c ∷ [])
-appended_octet out at c h =
-    record { held = ap (λ (n : ℕ). take n (set out at c)) (add-one at) ∙ take-suc-set out at c h; end_is = refl }
-
-pub appended_append : (a b d : List ℕ) (i j k : ℕ) (s t : Text) → Appended a i b j s → Appended b j d k t → Appended a i d k (s ++ t)
-appended_append a b d i j k s t f g =
+pub appended_append : (a b d : Answers) (s t : Text) → Appended a b s → Appended b d t → Appended a d (s ++ t)
+appended_append a b d s t f g =
     record {
-      held = g.held ∙ ap (λ (r : Text). r ++ t) f.held ∙ append_assoc (take i a) s t;
+      held = g.held ∙ ap (λ (r : Text). r ++ t) f.held ∙ append_assoc (take a.at a.out.now) s t;
       end_is = omega (arith, f, g, length-append s t);
+      room = g.room ∙ f.room;
+      same_reference = g.same_reference ∙ f.same_reference;
     }
 
 -- ---- how many digits
 
-how_many-suc : (k : ℕ) (f : ℕ → Bool) → how_many (k + 1) f ≡ how_many k f + cond (f k) 1 0
-unfolding how_many sum
-how_many-suc k f = rw (add-one k)
+abbrev pub powers : List ℕ
+powers = 10 ∷ 100 ∷ 1000 ∷ 10000 ∷ 100000 ∷ 1000000 ∷ 10000000 ∷ 100000000 ∷ 1000000000 ∷ []
 
--- a test as a number, as the code has it
-record OneOrNone (t : Bool) : Type 0 where
-  is : bool_byte t ≡ cond t 1 0
-  most : cond t 1 0 ≤ 1
+pub powers_more : (x i digits next : ℕ) → digits ≡ count_by (λ p. leb p x) (take i powers) + 1 → i < 9
+    → (get_or powers i 0 ≤ x → next ≡ digits + 1) → (x < get_or powers i 0 → next ≡ digits) → next ≡ count_by (λ p. leb p x) (take (i + 1) powers) + 1
+powers_more x i digits next e h reached above =
+    elim (dec_lt x (get_or powers i 0)) [
+      | yes l ↦ omega (arith, above l, count_by_more_no (λ p. leb p x) powers i 0 h (lt-leb (get_or powers i 0) x l))
+      | no g ↦ let le : get_or powers i 0 ≤ x = omega arith in
+          omega (arith, reached le, count_by_more_yes (λ p. leb p x) powers i 0 h (le-leb (get_or powers i 0) x le))
+    ]
 
-one_or_none : (t : Bool) → OneOrNone t
-one_or_none true = record { is = refl; most = omega arith }
-one_or_none false = record { is = refl; most = omega arith }
+pub powers_reached : (x i digits : ℕ) → digits ≡ count_by (λ p. leb p x) (take i powers) + 1 → i ≡ 9 → digits ≡ decimal_length x
+unfolding decimal_length how_many sum
+powers_reached x i digits e all = omega (arith, rw all at e)
 
-pub record Counting (x power digits k : ℕ) : Type 0 where
-  pub within : k ≤ 9
-  pub power-is : power ≡ 10 ^ suc k
-  pub digits_are : digits ≡ suc (how_many k (λ i. leb (10 ^ suc i) x))
-  pub digits_le : digits ≤ k + 1
-
-pub counting_start : (x : ℕ) → Counting x 10 1 0
-unfolding how_many sum
-counting_start x = record { within = omega arith; power-is = refl; digits_are = refl; digits_le = omega arith }
-
-module _ (x power digits k : ℕ) (t : Counting x power digits k) (more : k < 9) where
-  pub power_le : power ≤ 10 ^ 9
-  power_le = rw t.power-is (pow-le-pow_right (omega arith) more)
-
-  next_power : power * 10 ≡ 10 ^ suc (k + 1)
-  next_power = rw (t.power-is, add-one k, pow-suc 10 (suc k))
-
-  pub counting_next : Counting x (power * 10) (digits + bool_byte (leb power x)) (k + 1)
-  counting_next =
-      let one : bool_byte (leb power x) ≡ cond (leb (10 ^ suc k) x) 1 0
-      = (one_or_none (leb power x)).is ∙ ap (λ (y : ℕ). cond (leb y x) 1 0) t.power-is in
-      record {
-        within = omega arith;
-        power-is = next_power;
-        digits_are = omega (arith, t.digits_are, one, how_many-suc k (λ i. leb (10 ^ suc i) x));
-        digits_le = omega (arith, one, (one_or_none (leb (10 ^ suc k) x)).most);
-      }
-
-pub counting_end : (x power digits k : ℕ) → Counting x power digits k → 9 ≤ k → digits ≡ decimal_length x
-unfolding decimal_length
-counting_end x power digits k t h =
-    let all : k ≡ 9 = omega arith in
-    t.digits_are ∙ ap (λ (n : ℕ). suc (how_many n (λ i. leb (10 ^ suc i) x))) all
+one_or_none : (t : Bool) → cond t 1 0 ≤ 1
+one_or_none true = omega arith
+one_or_none false = omega arith
 
 how_many-le : (n : ℕ) (f : ℕ → Bool) → how_many n f ≤ n
 unfolding how_many sum
 how_many-le zero f = omega arith
-how_many-le (suc n) f = omega (arith, how_many-le n f, (one_or_none (f n)).most)
+how_many-le (suc n) f = omega (arith, how_many-le n f, one_or_none (f n))
 
 pub decimal_length-le : (x : ℕ) → decimal_length x ≤ 10
 unfolding decimal_length
@@ -113,56 +86,41 @@ limits_text-le (accepted x) =
 
 -- ---- the digits, from the last to the first
 
-pub record Writing (before out : List ℕ) (at end x rest i : ℕ) : Type 0 where
-  pub from : at ≤ i
-  pub to : i ≤ end
-  pub room : end ≤ length out
-  pub kept : length out ≡ length before
-  pub front : take at out ≡ take at before
-  pub written : take (end - i) (drop i out) ≡ digits (end - i) x
-  pub rest_is : rest ≡ x / 10 ^ (end - i)
+pub record Writing (octets : List ℕ) (x rest i : ℕ) : Type 0 where
+  pub within : i ≤ length octets
+  pub written : drop i octets ≡ digits (length octets - i) x
+  pub rest_is : rest ≡ x / 10 ^ (length octets - i)
 
-pub writing_start : (out : List ℕ) (at end x : ℕ) → at ≤ end → end ≤ length out → Writing out out at end x x end
+pub writing_start : (octets : List ℕ) (x : ℕ) → Writing octets x x (length octets)
 unfolding tabulate
-writing_start out at end x from room =
-    let none : end - end ≡ 0 = omega arith in
+writing_start octets x =
+    let none : length octets - length octets ≡ 0 = omega arith in
     record {
-      from = from;
-      to = omega arith;
-      room = room;
-      kept = refl;
-      front = refl;
-      written = rw none;
+      within = omega arith;
+      written = rw (none, drop_of_length-le octets {i = length octets} (omega arith));
       rest_is = rw none (sym (div-one x));
     }
 
-module _ (before out : List ℕ) (at end x rest i : ℕ) (w : Writing before out at end x rest i) where
-  pub writing_next : (j : ℕ) → i ≡ suc j → at ≤ j → Writing before (set out j (48 + rest % 10)) at end x (rest / 10) j
-  writing_next j e h =
-      let more : end - j ≡ suc (end - i) = omega arith in
-      let inside : j < length out = omega arith in
-      let digit = 48 + rest % 10 in
-      let stored : drop j (set out j digit) ≡ digit ∷ drop i out
-      = drop-cons (set out j digit) j 0 (rw (length-set out j digit) inside)
-      ∙ ap₂ ◌∷◌ (get_or-set_same out j digit 0 inside) (drop-set-lt (suc j) out j digit (omega arith) ∙ ap (λ (n : ℕ). drop n out) (sym e)) in
-      record {
-        from = h;
-        to = omega arith;
-        room = rw (length-set out j digit) w.room;
-        kept = length-set out j digit ∙ w.kept;
-        front = take-set-le at out j digit h ∙ w.front;
-        written = rw (more, stored, digits_suc (end - i) x)
-            (ap₂ ◌∷◌ (ap (λ (n : ℕ). 48 + n % 10) w.rest_is) w.written);
-        rest_is = rw (more, w.rest_is, pow-suc 10 (end - i)) (div-div-eq-div-mul x (10 ^ (end - i)) 10);
-      }
+pub writing_next : (octets : List ℕ) (x rest i : ℕ) → Writing octets x rest i → (j : ℕ) → i ≡ suc j
+    → Writing (set octets j (48 + rest % 10)) x (rest / 10) j
+writing_next octets x rest i w j e =
+    let digit = 48 + rest % 10 in
+    let size = length-set octets j digit in
+    let more : length octets - j ≡ suc (length octets - i) = omega (arith, w.within) in
+    let inside : j < length octets = omega (arith, w.within) in
+    let stored : drop j (set octets j digit) ≡ digit ∷ drop i octets
+    = drop-cons (set octets j digit) j 0 (rw size inside)
+    ∙ ap₂ ◌∷◌ (get_or-set_same octets j digit 0 inside) (drop-set-lt (suc j) octets j digit (omega arith) ∙ ap (λ (n : ℕ). drop n octets) (sym e)) in
+    record {
+      within = rw size (omega arith);
+      written = rw (size, more, stored, digits_suc (length octets - i) x)
+          (ap₂ ◌∷◌ (ap (λ (n : ℕ). 48 + n % 10) w.rest_is) w.written);
+      rest_is = rw (size, more, w.rest_is, pow-suc 10 (length octets - i)) (div-div-eq-div-mul x (10 ^ (length octets - i)) 10);
+    }
 
-  pub writing_end : i ≤ at → end ≡ at + decimal_length x → Appended before at out end (decimal_text x)
-  unfolding decimal_text
-  writing_end h e =
-      let first : i ≡ at = omega arith in
-      let all : end - i ≡ decimal_length x = omega arith in
-      record {
-        held = ap (λ (n : ℕ). take n out) e ∙ take-add at (decimal_length x) out
-            ∙ ap₂ (λ (a b : Text). a ++ b) w.front (rw (all, first) at w.written);
-        end_is = rw (length-decimal_text x) e;
-      }
+pub writing_end : (octets : List ℕ) (x rest i : ℕ) → Writing octets x rest i → i ≤ 0 → length octets ≡ decimal_length x → octets ≡ decimal_text x
+unfolding decimal_text
+writing_end octets x rest i w h e =
+    let first : i ≡ 0 = omega arith in
+    let all : length octets - i ≡ decimal_length x = omega arith in
+    rw (all, first) at w.written

@@ -2,7 +2,8 @@
 #![tactic(auto)]
 
 fn main(rt: HostRuntime) {
+    let mut streams = roomsheet_run::Streams::new(rt.stdin(), rt.stdout());
     let mut input = [0u8; 88];
     let mut output = [0u8; 33];
-    roomsheet_run::run(rt.stdin(), rt.stdout(), &mut input, 7, &mut output);
+    roomsheet_run::run(&mut streams, &mut input, 7, &mut output);
 }

@@ -38,9 +38,6 @@ module _ {high fold : ℕ} (h : high < 134217728) (l : fold < 2147483648) where
   folded_le : high * fold ≤ 288230376151711744
   folded_le = mul-le-mul (le_of_lt h) (le_of_lt l)
 
-  pub folded_high_small : high * fold < 18446744073709551616
-  folded_high_small = omega (arith, folded_le)
-
   pub folded_small : {low : ℕ} → low < 140737488355328 → high * fold + low < 18446744073709551616
   folded_small g = omega (arith, folded_le)
 

@@ -10,8 +10,8 @@ use mathlib.Core.List.{List, [], append-nil}
 use lib.Dec.{lit<}
 use borrow.Author.Tests.{lt-ltb, le-ltb, le-leb, lt-leb}
 use lib.ListN.{length, get_or, replicate, take, drop, length-replicate, length-drop, drop_of_length-le}
-use lib.Seq.{take_all, drop-drop}
-use borrow.Rule.Slice.PartMut.{mid_of, put_mid}
+use lib.Seq.{take_all, drop-drop, get_or-take, get_or-drop}
+use borrow.Rule.Slice.PartMut.{mid_of, put_mid, mid_len}
 use Rattle.definitions.specs.Sequences.{sum, tabulate, same_number}
 use Rattle.definitions.specs.Ring.{Element, InRing, element_of}
 use Rattle.definitions.proofs.Sums.{same_number_self, same_number-other, sum_cong, sum-append, sum-zero}
@@ -223,39 +223,57 @@ unfolding factors_from
 factors_below m a h l i = (padded-below m a h l i, padded-below m a h l (i + 1), padded-below m a h l (i + 2), padded-below m a h l (i + 3))
 
 -- what `row_sum` asks, and what it then sums
-module _ {m at : ℕ} {words row : List ℕ} (o : Operands m words at row) (i h : ℕ) {f : Factors} (e : f ≡ factors_from m (part words at) i) where
-  pub row-sum_asked : h + 4 ≤ m + 14 → ((f.a0 < 2147483648) × (f.a1 < 2147483648) × (f.a2 < 2147483648) × (f.a3 < 2147483648))
+module _ {a row : List ℕ} (o : Operands a row) (i h : ℕ) {f : Factors} (e : f ≡ factors_from (length a) (element_of a) i) where
+  pub row-sum_asked : h + 4 ≤ length a + 14 → ((f.a0 < 2147483648) × (f.a1 < 2147483648) × (f.a2 < 2147483648) × (f.a3 < 2147483648))
       × ((h + 4 ≤ length row) × ((j : ℕ) → get_or row j 0 < 2147483648))
   row-sum_asked l = (
-    rw e (factors_below m (part words at) o.first_small (lit< tt) i),
-    (omega (arith, o.room), λ j. rw (o.surrounded j) (shifted-below m (part row 7) o.second_small (lit< tt) 7 j)),
+    rw e (factors_below (length a) (element_of a) o.first_small (lit< tt) i),
+    (omega (arith, o.room), λ j. rw (o.surrounded j) (shifted-below (length a) (part row 7) o.second_small (lit< tt) 7 j)),
   )
 
-  pub row-sum_rows : (p : ℕ) → i + h ≡ p + 4 → {s : ℕ} → s ≡ row_sum f row h → s ≡ four_rows m (part words at) (part row 7) i p
-  row-sum_rows p g d = d ∙ rw e (four_rows-sum m (part words at) (part row 7) row o.surrounded i h p g)
+  pub row-sum_rows : (p : ℕ) → i + h ≡ p + 4 → {s : ℕ} → s ≡ row_sum f row h → s ≡ four_rows (length a) (element_of a) (part row 7) i p
+  row-sum_rows p g d = d ∙ rw e (four_rows-sum (length a) (element_of a) (part row 7) row o.surrounded i h p g)
 
 shifted_by : (m : ℕ) (b : Element) (i : ℕ) {k : ℕ} → k < m → shifted m b i (i + k) ≡ b k
 shifted_by m b i {k} l = shifted_along m b i (i + k) 0 k (omega arith) ∙ shifted_start m b k ∙ padded-inside m b l
 
--- the polynomial that stands in a row
-module _ (m : ℕ) (b : Element) (row : List ℕ) (around : Surrounded m b row) where
-  row_inside : (k : ℕ) → k < m → part row 7 k ≡ b k
-  row_inside k l = around (7 + k) ∙ shifted_by m b 7 l
+-- m coefficients of the words from a place on, lent as a slice
+abbrev pub lent : ℕ → ℕ → List ℕ → List ℕ
+lent m at words = mid_of at (at + m - at) words
 
-  pub row_operands : {at q top : ℕ} {words : List ℕ} → m ≤ 80 → at + m ≤ length words → m + 14 ≤ length row → q ≤ 2147483648 → top ≤ 2147483648
-      → InRing q m (part words at) → InRing top m b → Operands m words at row
-  row_operands few within room x y h g =
-      record {
-        few = few;
-        within = within;
-        room = room;
-        first_small = λ k l. lt_of_lt_of_le (h k l) x;
-        second_small = λ k l. rw (row_inside k l) (lt_of_lt_of_le (g k l) y);
-        surrounded = λ j. around j ∙ shifted_cong m (λ k l. sym (row_inside k l)) 7 j;
-      }
+module _ (m at : ℕ) (words : List ℕ) (fits : at + m ≤ length words) where
+  lent_long : length (lent m at words) ≡ m
+  lent_long = mid_len at (at + m) words fits ∙ omega arith
 
-  pub linear-row : (a : Element) (k : ℕ) → linear m a (part row 7) k ≡ linear m a b k
-  linear-row a k = linear_cong m (λ i l. refl) row_inside k
+  lent_inside : (k : ℕ) → k < m → element_of (lent m at words) k ≡ part words at k
+  lent_inside k l = get_or-take (at + m - at) (drop at words) k 0 (omega arith) ∙ get_or-drop at words k 0
+
+  pub lent_surrounded : (row : List ℕ) → (let b = lent m at words in Surrounded (length b) (element_of b) row) → Surrounded m (part words at) row
+  lent_surrounded row around j =
+      around j ∙ ap (λ (n : ℕ). shifted n (element_of (lent m at words)) 7 j) lent_long ∙ shifted_cong m lent_inside 7 j
+
+  -- and a polynomial that stands in a row
+  module _ (b : Element) (row : List ℕ) (around : Surrounded m b row) where
+    row_inside : (k : ℕ) → k < m → part row 7 k ≡ b k
+    row_inside k l = around (7 + k) ∙ shifted_by m b 7 l
+
+    pub row_operands : {q top : ℕ} → m ≤ 80 → m + 14 ≤ length row → q ≤ 2147483648 → top ≤ 2147483648
+        → InRing q m (part words at) → InRing top m b → Operands (lent m at words) row
+    row_operands few room x y h g =
+        record {
+          few = omega (arith, lent_long);
+          room = omega (arith, lent_long);
+          first_small = λ k l. let s : k < m = omega (arith, lent_long) in rw (lent_inside k s) (lt_of_lt_of_le (h k s) x);
+          second_small = λ k l. let s : k < m = omega (arith, lent_long) in rw (row_inside k s) (lt_of_lt_of_le (g k s) y);
+          surrounded =
+              λ j.
+              around j ∙ shifted_cong m (λ k l. sym (row_inside k l)) 7 j ∙ ap (λ (n : ℕ). shifted n (part row 7) 7 j) (sym lent_long);
+        }
+
+    pub linear-row : (k : ℕ) → (let a = lent m at words in linear (length a) (element_of a) (part row 7) k) ≡ linear m (part words at) b k
+    linear-row k =
+        ap (λ (n : ℕ). linear n (element_of (lent m at words)) (part row 7) k) lent_long
+        ∙ linear_cong m lent_inside row_inside k
 
 zeros_at : (n k : ℕ) → element_of (replicate n 0) k ≡ 0
 zeros_at zero k = refl

@@ -8,7 +8,7 @@
 --   factors_from      the factors of the four rows from i on
 --   row_sum           four rows as they are summed, with given factors: the first is read at k + 3, each next one a place before
 --   Surrounded       a row: a list in which b stands after seven zeros and before no others than zeros
---   Operands         two polynomials of at most 80 coefficients below 2^31 stand in the words, from a place on, and in a row
+--   Operands         two polynomials of as many coefficients, at most 80 and below 2^31: a list, and one that stands in a row
 --   Added            a list with f k added at each place k
 --   Halves           a number cut at 2^42: low + 2^42 × high, both small enough to be put together again below 2^64
 --   Leaf             two polynomials of at most 80 coefficients stand in the words, which have room for their product from a place on
@@ -16,7 +16,7 @@
 -- Assumes nothing.
 use Rattle.std.specs.Prelude.{ℕ, ◌+◌, ◌-◌, ◌*◌, ◌%◌, ◌≤◌, ◌<◌, ◌≡◌, cond, List, ltb, leb, length, get_or}
 use Rattle.definitions.specs.Sequences.{tabulate}
-use Rattle.definitions.specs.Ring.{Element, InRing}
+use Rattle.definitions.specs.Ring.{Element, InRing, element_of}
 use Rattle.ring.specs.Work.{part, written}
 use Rattle.ring.specs.Linear.{linear}
 use Rattle.rows.specs.declared.Factors.{Factors}
@@ -45,13 +45,12 @@ row_sum f row k = f.a0 * get_or row (k + 3) 0 + f.a1 * get_or row (k + 2) 0 + f.
 abbrev pub Surrounded : ℕ → Element → List ℕ → Type 0
 Surrounded m b row = (j : ℕ) → get_or row j 0 ≡ shifted m b 7 j
 
-pub record Operands (m : ℕ) (words : List ℕ) (at : ℕ) (row : List ℕ) : Type 0 where
-  pub few : m ≤ 80
-  pub within : at + m ≤ length words
-  pub room : m + 14 ≤ length row
-  pub first_small : InRing 2147483648 m (part words at)
-  pub second_small : InRing 2147483648 m (part row 7)
-  pub surrounded : Surrounded m (part row 7) row
+pub record Operands (a row : List ℕ) : Type 0 where
+  pub few : length a ≤ 80
+  pub room : length a + 14 ≤ length row
+  pub first_small : InRing 2147483648 (length a) (element_of a)
+  pub second_small : InRing 2147483648 (length a) (part row 7)
+  pub surrounded : Surrounded (length a) (part row 7) row
 
 abbrev pub Added : (ℕ → ℕ) → List ℕ → List ℕ → Type 0
 Added f old new = (k : ℕ) → get_or new k 0 ≡ get_or old k 0 + f k

@@ -1,19 +1,17 @@
 -- Why the two halves of a secret's octets are its two elements: each has the octets of one, and no more.
 --
 --   half-second      the octets from the second half on are that half
---   bits-clear-..        what the tests of both halves say of the whole secret
 --   unpacked_halves  both halves unpacked into the first two parts
 -- Assumes nothing.
-use Prim.Native.Nat.{ℕ, ◌+◌, ◌*◌, ◌≤◌, zero-le}
+use Prim.Native.Nat.{ℕ, ◌+◌, ◌≤◌, zero-le}
 use mathlib.Core.Path.{◌≡◌, ap, ◌∙◌}
-use mathlib.Core.Bool.{Bool, true, false}
 use mathlib.Core.List.{List}
 use native.Mathlib.Omega.{arith}
 use lib.ListN.{length, get_or, drop, length-drop}
 use lib.Seq.{take_all}
 use Rattle.definitions.specs.Parameters.{Parameters, small_bits, small_length, secret_length, work_length}
-use Rattle.definitions.specs.Octets.{unpacked, padding_clear}
-use Rattle.definitions.specs.Calls.{small_of, secret_x, secret_y, secret_bits_clear}
+use Rattle.definitions.specs.Octets.{unpacked}
+use Rattle.definitions.specs.Calls.{small_of, secret_x, secret_y}
 use Rattle.definitions.proofs.Parameters.{secret_length_halves}
 use Rattle.definitions.proofs.Packing.{length-unpacked}
 use Rattle.ring.specs.Work.{written}
@@ -29,17 +27,6 @@ module _ (p : Parameters) (secret : List ℕ) (exact : length secret ≡ secret_
 
   pub second-room : small_length p + small_length p ≤ length secret
   second-room = omega (arith, exact, secret_length_halves p)
-
-  abbrev clear : ℕ → Bool
-  clear from = padding_clear (p.n * small_bits p.l) (half p from secret)
-
-  pub bits_clear_not : clear 0 ≡ false → false ≡ secret_bits_clear p secret
-  unfolding secret_bits_clear
-  bits_clear_not e = rw e
-
-  pub bits_clear_second : clear 0 ≡ true → clear (small_length p) ≡ secret_bits_clear p secret
-  unfolding secret_bits_clear
-  bits_clear_second e = rw (e, half-second)
 
   pub unpacked_halves : (work mid : List ℕ) {new : List ℕ} → length work ≡ work_length p
       → mid ≡ written 0 (unpacked (small_bits p.l) p.n (half p 0 secret)) work

@@ -1,19 +1,17 @@
 -- Why the value that is found is that of the definitions: the octets' coefficients are the polynomial's, and the first two parts the secret's.
 --
---   full-..                what the tests of both top coefficients say of the degrees
 --   value_sizes, value-tops, value-octets, value-modulus, unpacked-x, unpacked-y    what taking the value and looking at the tops ask
 --   unpacked-full          the degrees are those of the secret
 --   valued-..              what each return leaves
 -- Assumes nothing.
-use Prim.Native.Nat.{ℕ, ◌+◌, ◌-◌, ◌*◌, ◌%◌, ◌≤◌, ◌<◌}
+use Prim.Native.Nat.{ℕ, ◌-◌, ◌*◌, ◌%◌, ◌≤◌, ◌<◌}
 use mathlib.Core.Path.{◌≡◌, sym, ap, ap₂, ◌∙◌}
 use mathlib.Core.Bool.{Bool, true, false, not, ◌&&◌}
 use mathlib.Core.List.{List, [], ◌∷◌}
-use native.Mathlib.Nat.{zero-add, lt_of_lt_of_le, pos_of_ne-zero}
+use native.Mathlib.Nat.{lt_of_lt_of_le, pos_of_ne-zero}
 use native.Mathlib.Omega.{arith}
-use borrow.Author.Tests.{eq-eqb, ne_eqb}
 use lib.Dec.{eqb}
-use lib.ListN.{length, get_or}
+use lib.ListN.{length}
 use Rattle.definitions.specs.Refusals.{Test, refuse, first_refusal}
 use Rattle.definitions.specs.Parameters.{Parameters, qlen, monomial_count, elements_length, work_length}
 use Rattle.definitions.specs.Ring.{InRing, modulo, full_degree}
@@ -32,19 +30,6 @@ use Rattle.secrets.specs.Secrets.{ValueInputs, Unpacked, Valued}
 module _ (n : ℕ) (work : List ℕ) where
   abbrev full_parts : Bool
   full_parts = full_degree n (part work 0) && full_degree n (part work n)
-
-  pub full-first_not : get_or work (n - 1) 0 ≡ 0 → false ≡ full_parts
-  unfolding full_degree
-  full-first_not e = rw (zero-add (n - 1), eq-eqb _ 0 e)
-
-  module _ (first : get_or work (n - 1) 0 ≡ 0 → ⊥) where
-    pub full-second_not : get_or work (n + (n - 1)) 0 ≡ 0 → false ≡ full_parts
-    unfolding full_degree
-    full-second_not e = rw (zero-add (n - 1), ne_eqb _ 0 first, eq-eqb _ 0 e)
-
-    pub full-both : (get_or work (n + (n - 1)) 0 ≡ 0 → ⊥) → true ≡ full_parts
-    unfolding full_degree
-    full-both second = rw (zero-add (n - 1), ne_eqb _ 0 first, ne_eqb _ 0 second)
 
 module _ (p : Parameters) (d : ℕ) (secret octets : List ℕ) where
   module _ {work : List ℕ} (exact : ValueInputs p d secret octets work) where

@@ -6,7 +6,7 @@
 --   Unpacked         both elements of the secret stand in the first two parts of the work words
 --   Valued           what a call of `value` leaves: the number of the tests after the length test, and where it is 0 the value in the third part
 -- Assumes nothing.
-use Rattle.std.specs.Prelude.{ℕ, ◌+◌, ◌*◌, ◌≤◌, ◌<◌, ◌≡◌, List, length, take, drop}
+use Rattle.std.specs.Prelude.{ℕ, ◌*◌, ◌≤◌, ◌<◌, ◌≡◌, List, length, take, drop}
 use Rattle.definitions.specs.Refusals.{first_refusal}
 use Rattle.definitions.specs.Parameters.{Parameters, monomial_count, small_length, secret_length, elements_length, work_length}
 use Rattle.definitions.specs.Ring.{Element, modulo}

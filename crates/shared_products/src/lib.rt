@@ -12,7 +12,6 @@ ghost use Rattle.definitions.specs.Sequences.{tabulate};
 ghost use Rattle.definitions.specs.Parameters.{degree, monomial_count};
 ghost use Rattle.definitions.specs.Ring.{conv, InRing};
 ghost use Rattle.definitions.specs.Calls.{polynomial_from};
-ghost use Rattle.definitions.specs.Demand3.{AcceptedSet};
 ghost use Rattle.parameters.specs.Answers.{set_from};
 ghost use Rattle.ring.specs.Work.{written};
 ghost use Rattle.mask_products.specs.Products.{mask_in, sum_in, pair_term, product_term, KeyAndMask, SumIs, SumGains};
@@ -22,20 +21,20 @@ use parameters::Parameters;
 
 // Where X_i r_i stands in the list.
 fn diagonal_at(p: Parameters, i: usize) -> usize
-    requires { AcceptedSet (set_from p) × (i < 6) }
-    ensures { result ≡ (monomial_count p.dx + i) * p.n }
+    requires { i < 6 }
+    ensures { result ≡ (monomial_count p.set.dx + i) * p.set.n }
 {
-    (monomials::monomial_count(p.dx) + i) * (p.n as usize)
+    (monomials::monomial_count(p.set.dx) + i) * (p.set.n as usize)
 }
 
 // One element of the key and its product with the mask's at the same place, into the list.
 fn prepare_element(p: Parameters, public: &[u8], i: usize, work: &mut [u32], list: &mut [u32])
-    requires key_and_mask { KeyAndMask (set_from p) public.now work.old × (p.dx ≡ p.dr) × (i < monomial_count p.dx) }
-    requires list_room { 2 * (monomial_count p.dx * p.n) ≤ length list.old }
-    ensures mask_kept { take (6 * p.n) work.new ≡ take (6 * p.n) work.old }
+    requires key_and_mask { KeyAndMask (set_from p) public.now work.old × (p.set.dx ≡ p.set.dr) × (i < monomial_count p.set.dx) }
+    requires list_room { 2 * (monomial_count p.set.dx * p.set.n) ≤ length list.old }
+    ensures mask_kept { take (6 * p.set.n) work.new ≡ take (6 * p.set.n) work.old }
     ensures prepared { list.new ≡ element_prepared (set_from p) (polynomial_from (set_from p) public.now) (mask_in (set_from p) work.old) i list.old }
 {
-    let n = p.n as usize;
+    let n = p.set.n as usize;
     let diagonal = diagonal_at(p, i);
     mask_products::clear_sum(p, work);
     mask_products::load_key(p, public, i, work);
@@ -46,81 +45,76 @@ fn prepare_element(p: Parameters, public: &[u8], i: usize, work: &mut [u32], lis
 
 // The key's elements and the diagonal, into the list.
 pub fn prepare(p: Parameters, public: &[u8], work: &mut [u32], list: &mut [u32])
-    requires { KeyAndMask (set_from p) public.now work.old × (p.dx ≡ p.dr) × (2 * (monomial_count p.dx * p.n) ≤ length list.old) }
-    ensures { PreparedKey (set_from p) public.now work.old list.new × (take (6 * p.n) work.new ≡ take (6 * p.n) work.old) }
+    requires { KeyAndMask (set_from p) public.now work.old × (p.set.dx ≡ p.set.dr) × (2 * (monomial_count p.set.dx * p.set.n) ≤ length list.old) }
+    ensures { PreparedKey (set_from p) public.now work.old list.new × (take (6 * p.set.n) work.new ≡ take (6 * p.set.n) work.old) }
 {
-    let count = monomials::monomial_count(p.dx);
-    let mut i = 0;
-    while i < count {
+    for i in 0..monomials::monomial_count(p.set.dx) {
         prepare_element(p, public, i, work, list);
-        i += 1;
     }
 }
 
 // X_i + X_j, into part 6.
 fn load_sum(p: Parameters, list: &[u32], i: usize, j: usize, work: &mut [u32])
-    requires { Shared (set_from p) work.old list.now × (i < monomial_count p.dx) × (j < i) }
-    ensures { work.new ≡ written (6 * p.n) (tabulate p.n (λ k. pair_sum (key_in (set_from p) list.now) i j k % p.q)) work.old }
+    requires { Shared (set_from p) work.old list.now × (i < monomial_count p.set.dx) × (j < i) }
+    ensures { work.new ≡ written (6 * p.set.n) (tabulate p.set.n (λ k. pair_sum (key_in (set_from p) list.now) i j k % p.set.q)) work.old }
 {
-    let n = p.n as usize;
+    let n = p.set.n as usize;
     let spare = 6 * n;
     ring::copy_from(work, spare, list, i * n, n);
-    ring::add_from(work, spare, list, j * n, n, p.q);
+    ring::add_from(work, spare, list, j * n, n, p.set.q);
 }
 
 // (X_i + X_j)(r_i + r_j), added to the sum. The sum of the mask's elements stands in the place of the first meanwhile.
 fn multiply_sums(p: Parameters, list: &[u32], i: usize, j: usize, work: &mut [u32])
-    requires { Shared (set_from p) work.old list.now × (i < monomial_count p.dx) × (j < i) × InRing p.q p.n (sum_in (set_from p) work.old) }
-    ensures { SumGains (set_from p) (λ mask. conv p.n (pair_sum (key_in (set_from p) list.now) i j) (pair_sum mask i j)) work.old work.new }
+    requires { Shared (set_from p) work.old list.now × (i < monomial_count p.set.dx) × (j < i) × InRing p.set.q p.set.n (sum_in (set_from p) work.old) }
+    ensures { SumGains (set_from p) (λ mask. conv p.set.n (pair_sum (key_in (set_from p) list.now) i j) (pair_sum mask i j)) work.old work.new }
 {
-    let n = p.n as usize;
+    let n = p.set.n as usize;
     let at = i * n;
     let other = j * n;
     load_sum(p, list, i, j, work);
-    ring::add(work, at, other, n, p.q);
+    ring::add(work, at, other, n, p.set.q);
     mask_products::multiply_mask(p, i, work);
-    ring::subtract(work, at, other, n, p.q);
+    ring::subtract(work, at, other, n, p.set.q);
 }
 
 // X_i r_j + X_j r_i, where j is before i and their monomials give the m-th.
 fn add_pair(p: Parameters, list: &[u32], i: usize, j: usize, m: usize, work: &mut [u32])
-    requires { SharedAdding (set_from p) m work.old list.now × (i < monomial_count p.dx) × (j < i) }
+    requires { SharedAdding (set_from p) m work.old list.now × (i < monomial_count p.set.dx) × (j < i) }
     ensures { SumGains (set_from p) (both_terms (set_from p) (key_in (set_from p) list.now) m i j) work.old work.new }
 {
-    if !monomials::same_monomial(p.dx, i, p.dr, j, m) {
+    if !monomials::same_monomial(p.set.dx, i, p.set.dr, j, m) {
         return;
     }
-    let n = p.n as usize;
+    let n = p.set.n as usize;
     let total = 7 * n;
     let first = diagonal_at(p, i);
     let second = diagonal_at(p, j);
     multiply_sums(p, list, i, j, work);
-    ring::subtract_from(work, total, list, first, n, p.q);
-    ring::subtract_from(work, total, list, second, n, p.q);
+    ring::subtract_from(work, total, list, first, n, p.set.q);
+    ring::subtract_from(work, total, list, second, n, p.set.q);
 }
 
 // X_i r_i, where the monomial's square is the m-th.
 fn add_square(p: Parameters, list: &[u32], i: usize, m: usize, work: &mut [u32])
-    requires { SharedAdding (set_from p) m work.old list.now × (i < monomial_count p.dx) }
+    requires { SharedAdding (set_from p) m work.old list.now × (i < monomial_count p.set.dx) }
     ensures { SumGains (set_from p) (pair_term (set_from p) (key_in (set_from p) list.now) m i i) work.old work.new }
 {
-    if !monomials::same_monomial(p.dx, i, p.dr, i, m) {
+    if !monomials::same_monomial(p.set.dx, i, p.set.dr, i, m) {
         return;
     }
-    let n = p.n as usize;
-    ring::add_from(work, 7 * n, list, diagonal_at(p, i), n, p.q);
+    let n = p.set.n as usize;
+    ring::add_from(work, 7 * n, list, diagonal_at(p, i), n, p.set.q);
 }
 
 // One monomial with itself and with each before it.
 fn add_row(p: Parameters, list: &[u32], i: usize, m: usize, work: &mut [u32])
-    requires { SharedAdding (set_from p) m work.old list.now × (i < monomial_count p.dx) }
+    requires { SharedAdding (set_from p) m work.old list.now × (i < monomial_count p.set.dx) }
     ensures { SumGains (set_from p) (row_of_pairs (set_from p) (key_in (set_from p) list.now) m i) work.old work.new }
 {
     add_square(p, list, i, m, work);
-    let mut j = 0;
-    while j < i {
+    for j in 0..i {
         add_pair(p, list, i, j, m, work);
-        j += 1;
     }
 }
 
@@ -130,10 +124,7 @@ pub fn product_at(p: Parameters, list: &[u32], m: usize, work: &mut [u32])
     ensures { SumIs (set_from p) (product_term (set_from p) (key_in (set_from p) list.now) m) work.old work.new }
 {
     mask_products::clear_sum(p, work);
-    let count = monomials::monomial_count(p.dx);
-    let mut i = 0;
-    while i < count {
+    for i in 0..monomials::monomial_count(p.set.dx) {
         add_row(p, list, i, m, work);
-        i += 1;
     }
 }

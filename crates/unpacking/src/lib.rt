@@ -3,36 +3,22 @@
 // group's first four words; a second pass makes rows of four coefficients of them, each row shifted by 4 b bits more. Whole rows are shifted
 // alike, so the compiler shifts four words at once. A list that ends early counts as going on with zeros, so the lengths are free; unused
 // bits are not looked at, and nothing is refused. The contract cites the definitions' unpacked, those of the steps specs/Lanes.antt. The loops
-// over groups are written once, with b as a variable, and called with a constant.
+// over groups are written once, with b as a const parameter, so that the compiler makes them for each b.
 #![tactic(auto)]
 
-ghost use Rattle.std.specs.Prelude.{◌≡◌, ◌++◌, ℕ, ◌+◌, ◌-◌, ◌*◌, ◌/◌, ◌≤◌, ◌<◌, length, take, drop, replicate};
+ghost use Rattle.std.specs.Prelude.{◌≡◌, ◌++◌, ℕ, ◌+◌, ◌*◌, ◌/◌, ◌≤◌, ◌<◌, length, take, drop};
 ghost use Rattle.definitions.specs.Octets.{number_of, unpacked};
 ghost use Rattle.packing.specs.Fields.{fields_of};
 ghost use Rattle.unpacking.specs.Lanes.{lanes_of, rows_of, groups_of};
 
-// So many coefficients from a number, stored from a place on.
-fn spread(words: &mut [u32], at: usize, count: usize, b: usize, x: u32)
-    requires { (1 ≤ b) × (b ≤ 4) × (count * b ≤ 32) × (at + count ≤ length words.old) }
-    ensures { take (at + count) words.new ≡ take at words.old ++ fields_of b count x }
+// Coefficients from a number, as many as there are words.
+fn spread(words: &mut [u32], b: usize, x: u32)
+    requires { (1 ≤ b) × (b ≤ 4) × (length words.old * b ≤ 32) }
+    ensures { words.new ≡ fields_of b (length words.old) x }
 {
     let modulus: u32 = 1 << b;
-    let mut k = 0;
-    while k < count {
-        words[at + k] = (x >> (k * b)) % modulus;
-        k += 1;
-    }
-}
-
-// Zeros from a place on.
-fn clear_words(words: &mut [u32], at: usize)
-    requires { at ≤ length words.old }
-    ensures { words.new ≡ take at words.old ++ replicate (length words.old - at) 0 }
-{
-    let mut i = at;
-    while i < words.len() {
-        words[i] = 0;
-        i += 1;
+    for (k, word) in words.iter_mut().enumerate() {
+        *word = (x >> (k * b)) % modulus;
     }
 }
 
@@ -57,15 +43,13 @@ fn spread_rows(words: &mut [u32], at: usize, rows: usize, b: usize)
     let second = words[at + 1];
     let third = words[at + 2];
     let fourth = words[at + 3];
-    let mut j = 0;
-    while j < rows {
+    for j in 0..rows {
         let shift = j * 4 * b;
         let row = at + j * 4;
         words[row] = (first >> shift) % l;
         words[row + 1] = (second >> shift) % l;
         words[row + 2] = (third >> shift) % l;
         words[row + 3] = (fourth >> shift) % l;
-        j += 1;
     }
 }
 
@@ -74,15 +58,13 @@ fn place_groups(octets: &[u8], b: usize, many: usize, groups: usize, words: &mut
     requires { (1 ≤ b) × (1 ≤ many) × (many * b ≤ 4) × (groups * (many * b) ≤ length octets.now) × (groups * (many * 8) ≤ length words.old) }
     ensures { (g : ℕ) → g < groups → take 4 (drop (g * (many * 8)) words.new) ≡ lanes_of b (number_of (take (many * b) (drop (g * (many * b)) octets.now))) }
 {
-    let mut g = 0;
-    while g < groups {
+    for g in 0..groups {
         place(
             words,
             g * (many * 8),
             b,
             decoding::number(octets, g * (many * b), many * b),
         );
-        g += 1;
     }
 }
 
@@ -91,19 +73,18 @@ fn spread_groups(words: &mut [u32], b: usize, many: usize, groups: usize)
     requires { (1 ≤ b) × (1 ≤ many) × (many * b ≤ 4) × (groups * (many * 8) ≤ length words.old) }
     ensures { take (groups * (many * 8)) words.new ≡ groups_of b many groups words.old }
 {
-    let mut g = 0;
-    while g < groups {
+    for g in 0..groups {
         spread_rows(words, g * (many * 8), many * 2, b);
-        g += 1;
     }
 }
 
-fn unpack_groups_by(octets: &[u8], b: usize, many: usize, groups: usize, words: &mut [u32])
-    requires { (1 ≤ b) × (1 ≤ many) × (many * b ≤ 4) × (groups * (many * b) ≤ length octets.now) × (groups * (many * 8) ≤ length words.old) }
-    ensures { take (groups * (many * 8)) words.new ≡ unpacked b (groups * (many * 8)) octets.now }
+// Both passes, over groups of 4 / B times 8 coefficients.
+fn unpack_groups_by<const B: usize>(octets: &[u8], groups: usize, words: &mut [u32])
+    requires { (1 ≤ B) × (B ≤ 4) × (groups * (4 / B * B) ≤ length octets.now) × (groups * (4 / B * 8) ≤ length words.old) }
+    ensures { take (groups * (4 / B * 8)) words.new ≡ unpacked B (groups * (4 / B * 8)) octets.now }
 {
-    place_groups(octets, b, many, groups, words);
-    spread_groups(words, b, many, groups);
+    place_groups(octets, B, 4 / B, groups, words);
+    spread_groups(words, B, 4 / B, groups);
 }
 
 // The first groups of 32 bits, or of 24 where b is 3.
@@ -111,19 +92,12 @@ fn unpack_groups(octets: &[u8], b: usize, groups: usize, words: &mut [u32])
     requires { (1 ≤ b) × (b ≤ 4) × (groups * (4 / b * b) ≤ length octets.now) × (groups * (4 / b * 8) ≤ length words.old) }
     ensures { take (groups * (4 / b * 8)) words.new ≡ unpacked b (groups * (4 / b * 8)) octets.now }
 {
-    if b == 1 {
-        unpack_groups_by(octets, 1, 4, groups, words);
-        return;
+    match b {
+        1 => unpack_groups_by::<1>(octets, groups, words),
+        2 => unpack_groups_by::<2>(octets, groups, words),
+        3 => unpack_groups_by::<3>(octets, groups, words),
+        _ => unpack_groups_by::<4>(octets, groups, words),
     }
-    if b == 2 {
-        unpack_groups_by(octets, 2, 2, groups, words);
-        return;
-    }
-    if b == 3 {
-        unpack_groups_by(octets, 3, 1, groups, words);
-        return;
-    }
-    unpack_groups_by(octets, 4, 1, groups, words);
 }
 
 // The coefficients of octets, as words.
@@ -135,18 +109,17 @@ pub fn unpack(octets: &[u8], b: u32, words: &mut [u32])
     let many = 4 / width;
     let size = many * 8;
     let len = many * width;
-    let groups = packing::least(words.len() / size, octets.len() / len);
+    let groups = (words.len() / size).min(octets.len() / len);
     unpack_groups(octets, width, groups, words);
     let at = groups * size;
     let from = groups * len;
-    let count = packing::least(words.len() - at, size);
-    let rest = packing::least(octets.len() - from, len);
+    let count = (words.len() - at).min(size);
+    let rest = (octets.len() - from).min(len);
+    let end = at + count;
     spread(
-        words,
-        at,
-        count,
+        &mut words[at..end],
         width,
         decoding::number(octets, from, rest),
     );
-    clear_words(words, at + count);
+    words[end..].fill(0);
 }

@@ -9,7 +9,7 @@ use Prim.Native.Nat.{ℕ, zero, suc, ◌+◌, ◌*◌, ◌%◌, ◌≤◌, ◌<�
 use mathlib.Core.Path.{◌≡◌, refl, sym, ap, ◌∙◌}
 use mathlib.Core.Bool.{Bool, true, ◌&&◌}
 use mathlib.Core.Logic.{◌⊎◌, ⊎_elim}
-use mathlib.Core.List.{List}
+use mathlib.Core.List.{List, ◌++◌}
 use native.Mathlib.Nat.{mod-eq_of_lt, mod-lt, mul-le-mul_right, zero-mul}
 use native.Mathlib.Numerals.{add-one}
 use native.Mathlib.Omega.{arith}
@@ -17,15 +17,16 @@ use lib.ListN.{length, get_or}
 use Rattle.definitions.specs.Sequences.{every, tabulate}
 use Rattle.definitions.specs.Parameters.{monomial_count}
 use Rattle.definitions.specs.Ring.{Element, InRing, multiply_add}
-use Rattle.definitions.specs.Octets.{decoded, coefficients_fit}
+use Rattle.definitions.specs.Octets.{coefficient_at, decoded, coefficients_fit}
 use Rattle.definitions.specs.Calls.{polynomial_in}
 use Rattle.definitions.proofs.Sums.{length-tabulate, get_or_tabulate}
+use Rattle.definitions.proofs.Filling.{tabulate-add}
 use Rattle.definitions.proofs.Octets.{coefficients_fit-below}
 use Rattle.definitions.proofs.Monomials.{monomial_count-le}
 use Rattle.ring.specs.Work.{part, written, product_added}
 use Rattle.ring.proofs.Work.{part-written, get_or-written-before, length-written-tabulate}
 use Rattle.decoding.specs.Elements.{Sizes}
-use Rattle.judging.proofs.Laws.{coefficients_fit_none, coefficients_fit-append, decoded_more}
+use Rattle.judging.proofs.Laws.{coefficients_fit_none, coefficients_fit-append}
 use Rattle.values.specs.Horner.{horner, stepped, row_of, fits_at, Placed}
 use Rattle.values.proofs.Horner.{horner_cong, horner-stepped}
 
@@ -44,6 +45,10 @@ pub row_cong : (n d : ℕ) (f : ℕ → Element) (t : ℕ) {u v : Element} → (
 unfolding row_of
 row_cong n d f t h k l = horner_cong n h (suc t) (λ c v i w. refl) k l
 
+decoded_more : (qlen m n : ℕ) (octets : List ℕ) → decoded qlen (m + n) octets ≡ decoded qlen m octets ++ tabulate n (λ k. coefficient_at qlen octets (m + k))
+unfolding decoded
+decoded_more qlen m n octets = tabulate-add m n (coefficient_at qlen octets)
+
 module _ (q n qlen : ℕ) (octets : List ℕ) where
   pub element_fits : (i : ℕ) → fits_at q n qlen octets i ≡ true → (k : ℕ) → k < n → polynomial_in n qlen octets i k ≡ polynomial_in n qlen octets i k % q
   element_fits i e k l =
@@ -56,7 +61,7 @@ module _ (q n qlen : ℕ) (octets : List ℕ) where
   decoded-fits zero = unfold decoded tabulate in rw (zero-mul n) (coefficients_fit_none q)
   decoded-fits (suc count) =
       let e : suc count * n ≡ count * n + n = omega arith in
-      rw (e, decoded_more q qlen octets (count * n) n, coefficients_fit-append q (tabulate n (polynomial_in n qlen octets count)) (decoded qlen (count * n) octets))
+      rw (e, decoded_more qlen (count * n) n octets, coefficients_fit-append q (tabulate n (polynomial_in n qlen octets count)) (decoded qlen (count * n) octets))
       (ap (λ (b : Bool). b && fits_at q n qlen octets count) (decoded-fits count))
 
 pub placed-written : {n at : ℕ} {f : Element} (old : List ℕ) {new : List ℕ} → at + n ≤ length old → new ≡ written at (tabulate n f) old → Placed n at f old new

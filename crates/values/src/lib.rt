@@ -1,22 +1,26 @@
-// The value of a polynomial in x and y at a secret (01, "Draws from lent random octets": opening), which decryption, the zero test and a key's
-// constant need.
+// The value of a polynomial in x and y at a secret (01, "Draws from lent random octets": opening), which decryption, the zero test and a
+// key's constant need.
 //
-// The polynomial's octets are lent. Horner's rule, x inside and y outside: a row is the terms of one power of y, taken by falling powers of x, and
-// the rows are taken by falling powers of y. Each term but one costs one product with a small element, and five parts of n words serve every
-// degree: u_x, u_y, the value, the row and a spare one. Each coefficient is read once, and 8 is answered at the first that is not below q; what
-// the words hold then is left open. The contracts cite the definitions' value, judging's fit_number and specs/Horner.antt.
+// The polynomial's octets are lent. Horner's rule, x inside and y outside: a row is the terms of one power of y, taken by falling powers of
+// x, and the rows are taken by falling powers of y. Each term but one costs one product with a small element, and five parts of n words
+// serve every degree: u_x, u_y, the value, the row and a spare one. Each coefficient is read once, and the first that is not below q is
+// refused; what the words hold then is left open. n, qlen and q stay parameters: more is promised than for the numbers of a set. The
+// contracts cite the definitions' value, judging's fit_number and specs/Horner.antt.
 #![tactic(auto)]
 
-ghost use Rattle.std.specs.Prelude.{◌≡◌, ℕ, ◌+◌, ◌*◌, ◌%◌, ◌≤◌, ◌<◌, length};
+ghost use Rattle.std.specs.Prelude.{◌≡◌, ℕ, ◌+◌, ◌*◌, ◌%◌, ◌≤◌, ◌<◌, length, OnOk};
 ghost use Rattle.definitions.specs.Parameters.{monomial_count};
 ghost use Rattle.definitions.specs.Ring.{InRing};
 ghost use Rattle.definitions.specs.Monomials.{value};
 ghost use Rattle.definitions.specs.Octets.{decoded};
 ghost use Rattle.definitions.specs.Calls.{polynomial_in};
+ghost use Rattle.parameters.specs.Refusals.{number_in};
 ghost use Rattle.ring.specs.Work.{part};
 ghost use Rattle.decoding.specs.Elements.{Sizes};
 ghost use Rattle.judging.specs.Reading.{coefficient_number, fit_number};
 ghost use Rattle.values.specs.Horner.{stepped, row_of, fits_at, row_fits, Placed};
+
+use parameters::refusals::Refusal;
 
 // The element at a place of the octets, read into a part of the work words.
 fn read_element(
@@ -27,10 +31,10 @@ fn read_element(
     q: u32,
     work: &mut [u32],
     at: usize,
-) -> u32
+) -> Result<(), Refusal>
     requires { Sizes n qlen work.old × (element < 45) × (element * n * qlen + n * qlen ≤ length octets.now) × (at + n ≤ length work.old) }
-    ensures judged { result ≡ coefficient_number (fits_at q n qlen octets.now element) }
-    ensures placed { result ≡ 0 → Placed n at (polynomial_in n qlen octets.now element) work.old work.new }
+    ensures judged { number_in result ≡ coefficient_number (fits_at q n qlen octets.now element) }
+    ensures placed { OnOk result (Placed n at (polynomial_in n qlen octets.now element) work.old work.new) }
 {
     let from = element * n * qlen;
     let stop = at + n;
@@ -50,41 +54,46 @@ fn step(work: &mut [u32], at: usize, factor: usize, next: usize, count: usize, n
 }
 
 // The row of y^(d - t), into the fourth part.
-fn row(octets: &[u8], d: usize, t: usize, n: usize, qlen: usize, q: u32, work: &mut [u32]) -> u32
+fn row(
+    octets: &[u8],
+    d: usize,
+    t: usize,
+    n: usize,
+    qlen: usize,
+    q: u32,
+    work: &mut [u32],
+) -> Result<(), Refusal>
     requires sizes { Sizes n qlen work.old × (d ≤ 8) × (t ≤ d) × (length octets.now ≡ monomial_count d * n * qlen) × (16 ≤ q) × (q < 2147483648) }
     requires in_ring { InRing 16 n (part work.old 0) }
-    ensures judged { result ≡ coefficient_number (row_fits d (fits_at q n qlen octets.now) t) }
-    ensures placed { result ≡ 0 → Placed n (3 * n) (λ k. row_of n d (polynomial_in n qlen octets.now) (part work.old 0) t k % q) work.old work.new }
+    ensures judged { number_in result ≡ coefficient_number (row_fits d (fits_at q n qlen octets.now) t) }
+    ensures placed { OnOk result (Placed n (3 * n) (λ k. row_of n d (polynomial_in n qlen octets.now) (part work.old 0) t k % q) work.old work.new) }
 {
     let mut first = 0;
-    let mut s = 0;
-    while s <= t {
-        let refused = read_element(octets, first + (d - t), n, qlen, q, work, 4 * n);
-        if refused != 0 {
-            return refused;
-        }
+    for s in 0..t + 1 {
+        read_element(octets, first + (d - t), n, qlen, q, work, 4 * n)?;
         step(work, 3 * n, 0, 4 * n, s, n, q);
         first += d + 1 - s;
-        s += 1;
     }
-    0
+    Ok(())
 }
 
-// The value of the polynomial of degree d in the octets, into the third part, and 0; or 8 where one of its coefficients is not below q.
-pub fn evaluate(octets: &[u8], d: usize, n: usize, qlen: usize, q: u32, work: &mut [u32]) -> u32
+// The value of the polynomial of degree d in the octets, into the third part; refused where one of its coefficients is not below q.
+pub fn evaluate(
+    octets: &[u8],
+    d: usize,
+    n: usize,
+    qlen: usize,
+    q: u32,
+    work: &mut [u32],
+) -> Result<(), Refusal>
     requires sizes { Sizes n qlen work.old × (d ≤ 8) × (length octets.now ≡ monomial_count d * n * qlen) × (16 ≤ q) × (q < 2147483648) }
     requires in_ring { InRing 16 n (part work.old 0) × InRing 16 n (part work.old n) }
-    ensures judged { result ≡ fit_number q (decoded qlen (monomial_count d * n) octets.now) }
-    ensures evaluated { result ≡ 0 → (k : ℕ) → k < n → part work.new (2 * n) k ≡ value n d (polynomial_in n qlen octets.now) (part work.old 0) (part work.old n) k % q }
+    ensures judged { number_in result ≡ fit_number q (decoded qlen (monomial_count d * n) octets.now) }
+    ensures evaluated { OnOk result ((k : ℕ) → k < n → part work.new (2 * n) k ≡ value n d (polynomial_in n qlen octets.now) (part work.old 0) (part work.old n) k % q) }
 {
-    let mut t = 0;
-    while t <= d {
-        let refused = row(octets, d, t, n, qlen, q, work);
-        if refused != 0 {
-            return refused;
-        }
+    for t in 0..d + 1 {
+        row(octets, d, t, n, qlen, q, work)?;
         step(work, 2 * n, n, 3 * n, t, n, q);
-        t += 1;
     }
-    0
+    Ok(())
 }

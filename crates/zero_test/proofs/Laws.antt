@@ -1,5 +1,6 @@
 -- Why the zero test is right: the tests that led to a return decide its answer, and the third part holds the key's value at the secret.
 --
+--   bool_number      an answer as a number
 --   tested-..        what the tests after the length test leave: the answer where they pass, and what was there where one does not
 --   is-zero-..       what each return leaves
 -- Assumes nothing.
@@ -9,6 +10,7 @@ use mathlib.Core.Bool.{Bool, true, false, cond}
 use mathlib.Core.List.{List}
 use mathlib.Core.Logic.{⊎_elim}
 use native.Mathlib.Omega.{arith}
+use mir.Val.{bool_byte}
 use lib.Dec.{eqb}
 use lib.ListN.{length, replicate}
 use Rattle.definitions.specs.Sequences.{every}
@@ -23,6 +25,11 @@ use Rattle.ring.specs.Work.{part}
 use Rattle.definitions.proofs.Exits.{exit_length, exit_refused, exit_accepted}
 use Rattle.secrets.specs.Secrets.{ValueInputs, Valued}
 use Rattle.zero_test.specs.Tested.{Tested}
+
+-- an answer as a number
+pub bool_number : (t : Bool) → bool_byte t ≡ cond t 1 0
+bool_number true = refl
+bool_number false = refl
 
 module _ (p : Parameters) (secret public : List ℕ) {refusal : ℕ} {work : List ℕ} (v : Valued p p.dx secret public refusal work) where
   pub tested-refused : (old : ℕ) → (refusal ≡ 0 → ⊥) → Tested p secret public refusal old old

@@ -5,36 +5,45 @@
 #![tactic(auto)]
 
 ghost use Rattle.definitions.specs.Promises.{TellsZero};
-ghost use Rattle.definitions.specs.Demand3.{AcceptedSet};
 ghost use Rattle.parameters.specs.Answers.{set_from};
+ghost use Rattle.parameters.specs.Refusals.{number_in};
 ghost use Rattle.secrets.specs.Secrets.{ValueInputs};
 ghost use Rattle.zero_test.specs.Tested.{Tested};
 
-use parameters::{Parameters, refusals};
+use parameters::Parameters;
+use parameters::refusals::Refusal;
 
 // The test, after the length test; the work words are left as they come.
-fn tested(p: Parameters, secret: &[u8], public: &[u8], work: &mut [u32], zero: &mut u32) -> u32
-    requires { ValueInputs (set_from p) p.dx secret.now public.now work.old }
-    ensures { Tested (set_from p) secret.now public.now result zero.old zero.new }
+fn tested(
+    p: Parameters,
+    secret: &[u8],
+    public: &[u8],
+    work: &mut [u32],
+    zero: &mut u32,
+) -> Result<(), Refusal>
+    requires { ValueInputs (set_from p) p.set.dx secret.now public.now work.old }
+    ensures { Tested (set_from p) secret.now public.now (number_in result) zero.old zero.new }
 {
-    let refused = secrets::value(p, p.dx as usize, secret, public, work);
-    if refused != 0 {
-        return refused;
-    }
-    let n = p.n as usize;
+    secrets::value(p, p.set.dx as usize, secret, public, work)?;
+    let n = p.set.n as usize;
     let from = 2 * n;
     let end = from + n;
-    *zero = ring::vanishes(work, from, end);
-    0
+    *zero = ring::vanishes(work, from, end) as u32;
+    Ok(())
 }
 
-pub fn is_zero(p: Parameters, secret: &[u8], public: &[u8], work: &mut [u32], zero: &mut u32) -> u32
-    requires { AcceptedSet (set_from p) }
-    ensures { TellsZero (set_from p) secret public work zero result }
+pub fn is_zero(
+    p: Parameters,
+    secret: &[u8],
+    public: &[u8],
+    work: &mut [u32],
+    zero: &mut u32,
+) -> Result<(), Refusal>
+    ensures { TellsZero (set_from p) secret public work zero (number_in result) }
 {
     if !lengths::keys_exact(p, secret.len(), public.len(), work.len()) {
-        return refusals::LENGTH;
+        return Err(Refusal::Length);
     }
-    let number = tested(p, secret, public, work, zero);
-    ring::cleared(work, number)
+    let outcome = tested(p, secret, public, work, zero);
+    ring::cleared(work, outcome)
 }

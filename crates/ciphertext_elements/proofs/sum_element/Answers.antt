@@ -6,17 +6,17 @@ use Rattle.mask_products.proofs.Sums.{inputs-set, sum_in_ring}
 use Rattle.ciphertext_elements.proofs.Elements.{sum_element}
 use Rattle.ciphertext_elements.proofs.sum_element.Goals as goal
 
-pub add_noise-requires-clause-accepted_set : goal.add_noise-requires-clause-accepted_set
-add_noise-requires-clause-accepted_set c =
+pub add_noise-requires-clause-work_exact : goal.add_noise-requires-clause-work_exact
+add_noise-requires-clause-work_exact c =
     let g = c.requires.encrypting.0.inputs in
     let product = c.product_element.ensures in
-    (g.set, product.as_long ∙ g.work-exact, sum_in_ring (modulus_positive _ (inputs-set g)) product)
+    (product.as_long ∙ g.work-exact, sum_in_ring (modulus_positive _ (inputs-set g)) product)
 
-pub add_message-requires-clause-accepted_set : goal.add_message-requires-clause-accepted_set
-add_message-requires-clause-accepted_set c =
+pub add_message-requires-clause-work_exact : goal.add_message-requires-clause-work_exact
+add_message-requires-clause-work_exact c =
     let g = c.requires.encrypting.0.inputs in
     let noise = c.add_noise.ensures.is in
-    (g.set, noise.as_long ∙ c.product_element.ensures.as_long ∙ g.work-exact, sum_in_ring (modulus_positive _ (inputs-set g)) noise)
+    (noise.as_long ∙ c.product_element.ensures.as_long ∙ g.work-exact, sum_in_ring (modulus_positive _ (inputs-set g)) noise)
 
 pub returns : goal.returns
 returns c = sum_element c.args.public.now c.args.message.now c.args.noise.now c.args.m c.product_element.ensures c.add_noise.ensures c.add_message.ensures

@@ -7,4 +7,4 @@ use Rattle.decoding.proofs.four.Goals as goal
 
 pub returns : goal.returns
 unfolding sum
-returns c = omega (arith, number_of-take 3 c.args.at c.args.octets.now c.requires)
+returns c = omega (arith, number_of-take 3 c.args.at c.args.octets.now c.requires, c.from_le_bytes.ensures)

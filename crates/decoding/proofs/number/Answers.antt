@@ -1,4 +1,4 @@
--- `decoding::number` is right because it adds the octets with their weights 1, 256, 256², 256³, and the number of octets is that sum.
+-- `decoding::number` is right because each octet has 256 times the weight of the one before it.
 -- Assumes nothing.
 use Rattle.std.proofs.Common.{◌≡◌, ℕ, suc, ◌+◌, ◌*◌, ◌^◌, ◌≤◌, List, get_or, take, drop, length, arith}
 use Rattle.definitions.specs.Sequences.{sum}
@@ -10,22 +10,18 @@ weighed : (octets : List ℕ) (at len k : ℕ) → at + len ≤ length octets �
     → number_of (take len (drop at octets)) ≡ get_or octets at 0 + sum k (λ j. 256 ^ suc j * get_or octets (at + suc j) 0)
 weighed octets at len k room e = rw e (number_of-take k at octets (omega arith))
 
-pub returns-then-len-eq0 : goal.returns-then-len-eq0
+pub returns-in-0 : goal.returns-in-0
 unfolding number_of
-returns-then-len-eq0 c = let e : c.args.len ≡ 0 = omega arith in rw e
+returns-in-0 c = rw c.in-0.is
 
-pub returns-then-len-eq1 : goal.returns-then-len-eq1
+pub returns-in-1 : goal.returns-in-1
 unfolding sum
-returns-then-len-eq1 c = omega (arith, weighed c.args.octets.now c.args.at c.args.len 0 c.requires.1 (omega arith))
+returns-in-1 c = omega (arith, weighed c.args.octets.now c.args.at c.args.len 0 c.requires.1 c.in-1.is)
 
-pub returns-then-len-eq2 : goal.returns-then-len-eq2
+pub returns-in-2 : goal.returns-in-2
 unfolding sum
-returns-then-len-eq2 c = omega (arith, weighed c.args.octets.now c.args.at c.args.len 1 c.requires.1 (omega arith))
+returns-in-2 c = omega (arith, weighed c.args.octets.now c.args.at c.args.len 1 c.requires.1 c.in-2.is, c.from_le_bytes.ensures)
 
-pub returns-then-len-eq3 : goal.returns-then-len-eq3
+pub returns-in-3 : goal.returns-in-3
 unfolding sum
-returns-then-len-eq3 c = omega (arith, weighed c.args.octets.now c.args.at c.args.len 2 c.requires.1 (omega arith))
-
-pub returns : goal.returns
-unfolding sum
-returns c = omega (arith, weighed c.args.octets.now c.args.at c.args.len 3 c.requires.1 (omega arith))
+returns-in-3 c = omega (arith, weighed c.args.octets.now c.args.at c.args.len 2 c.requires.1 c.in-3.is, c.from_le_bytes-in-3.ensures)

@@ -15,25 +15,25 @@ room : (n : ℕ) {len : ℕ} → len ≡ 8 * n → 2 * n + n ≤ len
 room n e = omega arith
 
 -- the third part lies inside the reduced words
-inside : (c : After-reduce) → 2 * c.args.p.n + c.args.p.n ≤ length c.reduce.new.work
+inside : (c : After-reduce) → 2 * c.args.p.set.n + c.args.p.set.n ≤ length c.reduce.new.work
 unfolding work_length
-inside c = room c.args.p.n (c.reduce.auto.work ∙ c.requires.2)
+inside c = room c.args.p.set.n (c.reduce.auto.work ∙ c.requires.1)
 
 pub reduce-requires : goal.reduce-requires
 unfolding work_length
-reduce-requires c = (room c.args.p.n c.requires.2, small_bits-power (set_from c.args.p) (accepted-set _ c.requires.0).range)
+reduce-requires c = (room c.args.p.set.n c.requires.1, small_bits-power (set_from c.args.p) (accepted-set _ c.args.p.accepted).range)
 
 pub nonzero_div-tail : goal.nonzero_div-tail
-nonzero_div-tail c = omega (arith, small_bits-within c.args.p.l)
+nonzero_div-tail c = omega (arith, small_bits-within c.args.p.set.l)
 
 pub vanishes-requires : goal.vanishes-requires
 vanishes-requires c = inside (goal.at.vanishes-requires c).After-reduce
 
-pub returns-then-vanishes-eq0 : goal.returns-then-vanishes-eq0
+pub returns-then-not-vanishes : goal.returns-then-not-vanishes
 unfolding modulo
-returns-then-vanishes-eq0 c =
-    message-tail (set_from c.args.p) (accepted-set _ c.requires.0) c.args.work.now c.requires.2 c.bits-b.ensures c.reduce.ensures c.vanishes.ensures
-    c.args.message.now (omega arith)
+returns-then-not-vanishes c =
+    message-tail (set_from c.args.p) (accepted-set _ c.args.p.accepted) c.args.work.now c.requires.1 c.bits-b.ensures c.reduce.ensures c.vanishes.ensures
+    c.args.message.now c.if-not-vanishes.true
 
 pub slice_bounds-pack-end : goal.slice_bounds-pack-end
 slice_bounds-pack-end c = inside (goal.at.slice_bounds-pack-end c).After-reduce
@@ -41,14 +41,13 @@ slice_bounds-pack-end c = inside (goal.at.slice_bounds-pack-end c).After-reduce
 pub pack-requires : goal.pack-requires
 unfolding modulo
 pack-requires c = (
-  omega (arith, small_bits-within c.args.p.l),
-  omega (arith, small_bits-within c.args.p.l),
-  reduced_fits (set_from c.args.p) (accepted-set _ c.requires.0) c.args.work.now c.requires.2 c.bits-b.ensures c.reduce.ensures,
+  omega (arith, small_bits-within c.args.p.set.l),
+  omega (arith, small_bits-within c.args.p.set.l),
+  reduced_fits (set_from c.args.p) (accepted-set _ c.args.p.accepted) c.args.work.now c.requires.1 c.bits-b.ensures c.reduce.ensures,
 )
 
 pub returns : goal.returns
 unfolding modulo
 returns c =
-    let some : c.vanishes.result ≡ 0 → ⊥ = λ z. omega (arith, z) in
-    message-written (set_from c.args.p) (accepted-set _ c.requires.0) c.args.work.now c.requires.2 c.bits-b.ensures c.reduce.ensures
-    c.vanishes.ensures c.args.message.now some c.requires.1 c.pack.ensures
+    message-written (set_from c.args.p) (accepted-set _ c.args.p.accepted) c.args.work.now c.requires.1 c.bits-b.ensures c.reduce.ensures
+    c.vanishes.ensures c.args.message.now c.if-not-vanishes.false c.requires.0 c.pack.ensures

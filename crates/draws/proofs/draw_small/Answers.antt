@@ -3,7 +3,7 @@ use Rattle.std.proofs.Common.{◌+◌, ◌-◌, ◌≡◌, arith}
 use Rattle.definitions.specs.Parameters.{small_length}
 use Rattle.definitions.specs.Draws.{small_drawn}
 use Rattle.parameters.proofs.Bounds.{small_bits-within}
-use Rattle.parameters.specs.Answers.{set_from}
+use Rattle.parameters.specs.Numbers.{numbers_from}
 use Rattle.draws.proofs.draw_small.Goals as goal
 
 pub unpack-requires : goal.unpack-requires
@@ -12,5 +12,5 @@ unpack-requires c = rw c.bits.ensures ((small_bits-within _).least, (small_bits-
 pub returns : goal.returns
 unfolding small_drawn
 returns c =
-    let count : c.args.at + c.small_length.result - c.args.at ≡ small_length (set_from c.args.p) = omega arith in
+    let count : c.args.at + c.small_length.result - c.args.at ≡ small_length (numbers_from c.args.set) = omega arith in
     rw (c.bits.ensures, c.requires.1, count) at c.unpack.ensures

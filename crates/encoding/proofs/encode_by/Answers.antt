@@ -1,32 +1,38 @@
--- `encoding::encode_by` is right because each turn stores the octets of two words behind those of the words before, and the last ones follow.
+-- Each turn stores the octets of its words behind those of the words before.
 -- Assumes nothing.
-use Rattle.std.proofs.Common.{◌+◌, ◌*◌, ◌≤◌, length, refl, sym, ◌∙◌, le_of_eq, arith}
+use Rattle.std.proofs.Common.{◌≡◌, ℕ, List, ◌+◌, ◌*◌, ◌≤◌, length, sym, ◌∙◌, le_of_eq, le_refl, arith}
 use native.Mathlib.Nat.{zero-mul}
-use Prim.Native.Nat.{zero-le}
 use Rattle.definitions.specs.Sequences.{joined}
 use Rattle.definitions.specs.Octets.{encoded}
-use Rattle.definitions.proofs.Octets.{wide_room}
-use Rattle.encoding.proofs.Laws.{encode_eight}
+use Rattle.definitions.proofs.Octets.{place_end, wide_room}
+use Rattle.encoding.proofs.Laws.{encode_wide, encode_eight}
 use Rattle.encoding.proofs.encode_by.Goals as goal
 
-pub loop-m-init : goal.loop-m-init
+pub loop-j-init : goal.loop-j-init
 unfolding encoded joined
-loop-m-init c = (zero-le, refl, rw (zero-mul c.args.qlen))
+loop-j-init g c = rw (zero-mul g.row.QLEN)
 
 -- eight octets have room
+room : (qlen m : ℕ) (words octets : List ℕ) → m + 8 ≤ length words → 1 ≤ qlen → length octets ≡ length words * qlen → m * qlen + 8 ≤ length octets
+room qlen m words octets more pos sized = wide_room m qlen 8 more pos (le_of_eq (sym sized))
+
 pub store_eight-requires : goal.store_eight-requires
-store_eight-requires c =
-    let more : c.loop-m.m + 8 ≤ length c.args.words.now = omega arith in
-    wide_room c.loop-m.m c.args.qlen 8 more (omega arith) (le_of_eq (sym (c.loop-m.invariant.1 ∙ c.requires.2)))
+store_eight-requires g c =
+    room g.row.QLEN (2 * c.loop-j.j) c.args.words.now c.loop-j.octets (omega arith) c.requires.0 (c.loop-j.auto.octets ∙ c.requires.2)
+
+pub loop-j-preserved : goal.loop-j-preserved
+loop-j-preserved g c =
+    let len = g.row.QLEN in
+    let m = 2 * c.loop-j.j in
+    let words = c.args.words.now in
+    let l = c.loop-j in
+    let space = room len m words l.octets (omega arith) c.requires.0 (l.auto.octets ∙ c.requires.2) in
+    let next : 2 * (l.j + 1) ≡ m + 2 = omega arith in
+    rw next (encode_eight m len words l.octets (omega arith) c.requires.1 space c.pair.ensures c.store_eight.ensures l.invariant)
 
 pub loop-m-preserved : goal.loop-m-preserved
-loop-m-preserved c =
-    let a = c.args in
+loop-m-preserved g c =
     let l = c.loop-m in
-    let more : l.m + 8 ≤ length a.words.now = omega arith in
-    let inside : l.m + 2 ≤ length a.words.now = omega arith in
-    let room : l.m * a.qlen + 8 ≤ length l.octets = wide_room l.m a.qlen 8 more (omega arith) (le_of_eq (sym (l.invariant.1 ∙ c.requires.2))) in (
-      inside,
-      c.store_eight.auto.octets ∙ l.invariant.1,
-      encode_eight l.m a.qlen a.words.now l.octets inside c.requires.1 room c.pair.ensures c.store_eight.ensures l.invariant.2,
-    )
+    let kept = l.auto.octets ∙ c.loop-j.auto.octets ∙ c.requires.2 in
+    let room : l.m * g.row.QLEN + g.row.QLEN ≤ length l.octets = place_end l.m g.row.QLEN c.loop-m-test.true (le_of_eq (sym kept)) in
+    encode_wide l.m g.row.QLEN g.row.QLEN c.args.words.now l.octets c.loop-m-test.true (le_refl g.row.QLEN) room c.store.ensures l.invariant

@@ -1,8 +1,10 @@
--- `encoding::store_eight` is right because eight octets are the four of the low part and the four of the high part.
+-- `encoding::store_eight` is right because the octets of a number as std writes it are put into the octets' place.
 -- Assumes nothing.
 use Rattle.std.proofs.Common.{◌∙◌}
-use Rattle.encoding.proofs.Laws.{stored_eight}
+use Rattle.encoding.proofs.Laws.{octets_of-std, stored_part}
 use Rattle.encoding.proofs.store_eight.Goals as goal
 
 pub returns : goal.returns
-returns c = c.store-2.ensures ∙ stored_eight c.args.at c.args.x c.args.octets.now c.requires c.store.ensures
+returns c =
+    let a = c.args in
+    stored_part a.at 8 a.x a.octets.now (c.copy_from_slice.ensures.after ∙ c.to_le_bytes.ensures ∙ octets_of-std 8 a.x)

@@ -4,20 +4,17 @@ use Rattle.std.proofs.Common.{ap}
 use Rattle.definitions.specs.Refusals.{Answer, number, output}
 use Rattle.definitions.specs.Parameters.{Limits, LimitsExit, limits_of, limits_answer, limits_exit}
 use Rattle.parameters.specs.Answers.{limits_from}
-use Rattle.parameters.proofs.Answers.{checked_fits, accepted-answer, refused-answer}
+use Rattle.parameters.proofs.Answers.{accepted-answer, refused-answer}
 use Rattle.giophantus.proofs.giophantus_limits.Goals as goal
 
 abbrev leaves : Limits → Answer Limits → LimitsExit
 leaves old a = record { refusal = number a; limits = output (λ l. l) a old }
 
-pub limits-x-requires : goal.limits-x-requires
-limits-x-requires c = checked_fits _ c.new.ensures c.in-Accepted.is
-
-pub returns-in-Accepted : goal.returns-in-Accepted
+pub returns-in-Ok : goal.returns-in-Ok
 unfolding limits_exit limits_answer
-returns-in-Accepted c =
-    ap (leaves _) (accepted-answer _ c.new.ensures c.in-Accepted.is limits_of (limits_from c.limits-x.result) c.limits-x.ensures)
+returns-in-Ok c =
+    ap (leaves _) (accepted-answer _ c.new.ensures c.in-Ok.is limits_of (limits_from c.limits-x.result) c.limits-x.ensures)
 
-pub returns-in-Refused : goal.returns-in-Refused
+pub returns-in-Err : goal.returns-in-Err
 unfolding limits_exit limits_answer
-returns-in-Refused c = ap (leaves _) (refused-answer _ c.new.ensures c.in-Refused.is _)
+returns-in-Err c = rw c.from.ensures (ap (leaves _) (refused-answer _ c.new.ensures c.in-Err.is _))

@@ -1,26 +1,39 @@
--- `judging::judge_by` is right because the coefficients before each place fit, several that do not fit settle the answer, and the rest is judged
--- behind them.
+-- `judging::judge_by` is right because after each turn, and then after each coefficient, `fit` tells whether all up to it are below q.
 -- Assumes nothing.
-use Rattle.std.proofs.Common.{arith, ◌+◌, ◌*◌, ◌/◌, ◌≤◌, length}
-use Rattle.std.proofs.Math.Nat.{le-div_iff_mul-le}
-use Rattle.judging.proofs.Laws.{readings_below, readings_large, octets_none, octets_more, octets_not, places_count}
+use Rattle.std.proofs.Common.{◌≡◌, ◌<◌, ◌-◌, ◌+◌, ◌*◌, ◌/◌, length, sym, ap, ◌∙◌, arith}
+use Rattle.std.proofs.Math.Nat.{div-mul-le_self}
+use Rattle.definitions.specs.Octets.{coefficient_at}
+use Rattle.judging.specs.Reading.{coefficient_number, fit_number}
+use Rattle.judging.proofs.Laws.{octets_none, octets_next, octets_several, several_inside}
 use Rattle.judging.proofs.judge_by.Goals as goal
 
-pub loop-m-init : goal.loop-m-init
-loop-m-init c = (omega arith, octets_none c.args.q c.args.qlen c.args.octets.now)
+pub loop-turn-init : goal.loop-turn-init
+loop-turn-init g c = sym (octets_none c.args.q g.row.QLEN c.args.octets.now)
 
-pub returns-in_default : goal.returns-in_default
-returns-in_default c =
+pub several_fit-fit-requires : goal.several_fit-fit-requires
+several_fit-fit-requires g c =
     let a = c.args in
-    let room : (c.loop-m.m + 63) * a.qlen + 4 ≤ length a.octets.now = omega arith in
-    let more : (c.loop-m.m + 64) * a.qlen ≤ length a.octets.now = places_count c.loop-m.m a.qlen _ c.requires.1 room in
-    let inside : c.loop-m.m + 64 ≤ length a.octets.now / a.qlen = (le-div_iff_mul-le c.requires.0).1 more in
-    octets_not a.q a.qlen a.octets.now c.loop-m.m 64 inside (readings_large a.q _ c.several_at.ensures c.in_default.is)
+    let more : c.loop-turn.turn < (length a.octets.now / g.row.QLEN - 3) / 64 = rw c.saturating_sub-turns.ensures at c.loop-turn-test.true in
+    (omega arith, omega arith, several_inside c.loop-turn.turn (length a.octets.now / g.row.QLEN) g.row.QLEN (length a.octets.now) c.requires.0 more (div-mul-le_self (length a.octets.now) g.row.QLEN))
+
+pub loop-turn-preserved : goal.loop-turn-preserved
+loop-turn-preserved g c =
+    let a = c.args in
+    let next : (c.loop-turn.turn + 1) * 64 ≡ c.loop-turn.turn * 64 + 64 = omega arith in
+    rw (next, c.loop-turn.invariant, c.several_fit-fit.ensures) (sym (octets_several a.q g.row.QLEN a.octets.now (c.loop-turn.turn * 64) 64))
+
+pub loop-m-init : goal.loop-m-init
+loop-m-init g c =
+    let end : c.loop-turn.turn ≡ c.saturating_sub-turns.result / 64 = omega arith in
+    rw end at c.loop-turn.invariant
 
 pub loop-m-preserved : goal.loop-m-preserved
-loop-m-preserved c =
-    let a = c.args in
-    let room : (c.loop-m.m + 63) * a.qlen + 4 ≤ length a.octets.now = omega arith in (
-      places_count c.loop-m.m a.qlen _ c.requires.1 room,
-      octets_more a.q a.qlen a.octets.now c.loop-m.m 64 c.loop-m.invariant.1 (readings_below a.q _ c.several_at.ensures c.in-Below.is),
-    )
+unfolding coefficient_at
+loop-m-preserved g c =
+    rw (c.loop-m.invariant, c.number.ensures) (sym (octets_next c.args.q g.row.QLEN c.args.octets.now c.loop-m.m))
+
+pub returns : goal.returns
+unfolding fit_number
+returns g c =
+    let end : c.loop-m.m ≡ length c.args.octets.now / g.row.QLEN = omega arith in
+    c.refuse_unless.ensures ∙ ap coefficient_number (rw end at c.loop-m.invariant)

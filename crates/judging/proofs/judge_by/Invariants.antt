@@ -1,12 +1,11 @@
--- `judging::judge_by` is right because the coefficients before each place fit, several that do not fit settle the answer, and the rest is judged
--- behind them.
+-- `judging::judge_by` is right because after each turn, and then after each coefficient, `fit` tells whether all up to it are below q.
 -- Assumes nothing.
-use Rattle.std.proofs.Common.{length, ◌-◌, ◌≡◌, true, ◌*◌, ◌≤◌}
+use Rattle.std.proofs.Common.{◌≡◌, ◌*◌}
 use Rattle.definitions.specs.Octets.{decoded, coefficients_fit}
 use Rattle.judging.proofs.judge_by.Given as goal
 
-abbrev pub invariant-loop-m : goal.invariant-loop-m
-invariant-loop-m l = (l.m * l.qlen ≤ length l.octets) × (coefficients_fit l.q (decoded l.qlen l.m l.octets) ≡ true)
+abbrev pub invariant-loop-turn : goal.invariant-loop-turn
+invariant-loop-turn g l = l.fit ≡ coefficients_fit l.q (decoded g.row.QLEN (l.turn * 64) l.octets)
 
-abbrev pub decreases-loop-m : goal.decreases-loop-m
-decreases-loop-m l = length l.octets - l.m
+abbrev pub invariant-loop-m : goal.invariant-loop-m
+invariant-loop-m g l = l.fit ≡ coefficients_fit l.q (decoded g.row.QLEN l.m l.octets)

@@ -9,10 +9,10 @@ use Rattle.key_draws.proofs.draw_terms.Goals as goal
 
 pub draw_below-requires : goal.draw_below-requires
 draw_below-requires c =
-    let a : Accepted (set_from c.args.p) = accepted-set _ c.requires.0 in
-    (rw c.requires.1 (halves_used-there _ _), modulus_positive _ a, omega (arith, a.modulus-most))
+    let a : Accepted (set_from c.args.p) = accepted-set _ c.args.p.accepted in
+    (rw c.requires.0 (halves_used-there _ _), modulus_positive _ a, omega (arith, a.modulus-most))
 
 pub returns-clause-drawn : goal.returns-clause-drawn
 returns-clause-drawn c =
-    (terms_drawn (set_from c.args.p) c.args.random.now c.args.work.now c.draw_below.new.words c.draw_below.result c.requires.1
-    c.drawn_end-stop.ensures.0 (omega (arith, c.requires.2, c.drawn_end-stop.ensures.1)) c.draw_below.auto.words c.draw_below.ensures).0
+    (terms_drawn (set_from c.args.p) c.args.random.now c.args.work.now c.draw_below.new.words c.draw_below.result c.requires.0
+    c.drawn_end-stop.ensures.0 (omega (arith, c.requires.1, c.drawn_end-stop.ensures.1)) c.draw_below.auto.words c.draw_below.ensures).0

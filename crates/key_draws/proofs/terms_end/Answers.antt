@@ -10,16 +10,16 @@ use Rattle.key_draws.proofs.terms_end.Goals as goal
 use Rattle.key_draws.proofs.terms_end.Goals.{After-monomial_count}
 
 set : (c : After-monomial_count) → Accepted (set_from c.args.p)
-set c = accepted-set _ c.requires
+set c = accepted-set _ c.args.p.accepted
 
-most : (c : After-monomial_count) → (c.monomial_count.result - 1) * c.args.p.n ≤ 5 * c.args.p.n
+most : (c : After-monomial_count) → (c.monomial_count.result - 1) * c.args.p.set.n ≤ 5 * c.args.p.set.n
 most c = mul-le-mul_right _ (rw c.monomial_count.ensures (others_most _ (set c)))
 
 pub monomial_count-requires : goal.monomial_count-requires
-monomial_count-requires c = omega (arith, key-degree-most _ (accepted-set (set_from c.args.p) c.requires))
+monomial_count-requires c = omega (arith, key-degree-most _ (accepted-set (set_from c.args.p) c.args.p.accepted))
 
 pub overflow_sub-result : goal.overflow_sub-result
-overflow_sub-result c = rw c.monomial_count.ensures (monomial_count_pos c.args.p.dx)
+overflow_sub-result c = rw c.monomial_count.ensures (monomial_count_pos c.args.p.set.dx)
 
 pub overflow_mul-result : goal.overflow_mul-result
 overflow_mul-result c =
@@ -31,6 +31,6 @@ overflow_add-result-2 c =
 
 pub returns : goal.returns
 returns c = (
-  ap (λ (m : ℕ). c.args.p.n + c.args.p.n + (m - 1) * c.args.p.n) c.monomial_count.ensures,
+  ap (λ (m : ℕ). c.args.p.set.n + c.args.p.set.n + (m - 1) * c.args.p.set.n) c.monomial_count.ensures,
   omega (arith, most (goal.at.returns c).After-monomial_count),
 )

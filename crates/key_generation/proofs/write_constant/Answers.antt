@@ -8,14 +8,15 @@ use Rattle.definitions.specs.Calls.{polynomial_in}
 use Rattle.definitions.proofs.Monomials.{monomial_count_pos}
 use Rattle.ring.specs.Work.{part}
 use Rattle.judging.proofs.Laws.{fit_number-zero}
-use Rattle.key_generation.proofs.Constant.{constant_placed}
+use Rattle.key_generation.proofs.Constant.{given_ok, constant_placed}
 use Rattle.key_generation.proofs.write_constant.Goals as goal
 use Rattle.key_generation.proofs.write_constant.Goals.{After-evaluate}
 
 -- nothing is refused: the octets were just written, each coefficient below q
 found : (c : After-evaluate) → (k : ℕ) → k < c.args.n → part c.evaluate.new.work (2 * c.args.n) k
     ≡ value c.args.n c.args.d (polynomial_in c.args.n c.args.qlen c.args.public.now) (part c.args.work.now 0) (part c.args.work.now c.args.n) k % c.args.q
-found c = c.evaluate.ensures.evaluated (c.evaluate.ensures.judged ∙ sym (fit_number-zero _ _ c.requires.fit.0))
+found c =
+    given_ok c.evaluate.result (c.evaluate.ensures.judged ∙ sym (fit_number-zero _ _ c.requires.fit.0)) c.evaluate.ensures.evaluated
 
 -- the third part lies inside the work words
 words : (c : After-evaluate) → 2 * c.args.n + c.args.n ≤ length c.evaluate.new.work

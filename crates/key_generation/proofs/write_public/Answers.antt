@@ -19,33 +19,33 @@ use Rattle.key_generation.proofs.write_public.Goals as goal
 use Rattle.key_generation.proofs.write_public.Goals.{After-clear}
 
 set : (c : After-clear) → Accepted (set_from c.args.p)
-set c = accepted-set _ c.requires.0.set
+set c = accepted-set _ c.args.p.accepted
 
-terms-sized : (c : After-clear) → length (words_terms (set_from c.args.p) c.args.work.now) ≡ (monomial_count c.args.p.dx - 1) * c.args.p.n
+terms-sized : (c : After-clear) → length (words_terms (set_from c.args.p) c.args.work.now) ≡ (monomial_count c.args.p.set.dx - 1) * c.args.p.set.n
 terms-sized c =
     let p = set_from c.args.p in
     length-slice (p.n + p.n) (terms_end p) c.args.work.now (omega (arith, terms_end-room p (set c), c.requires.0.sized)) ∙ omega arith
 
-terms-below : (c : After-clear) → AllBelow c.args.p.q (words_terms (set_from c.args.p) c.args.work.now)
+terms-below : (c : After-clear) → AllBelow c.args.p.set.q (words_terms (set_from c.args.p) c.args.work.now)
 terms-below c = coefficients_fit-below _ _ c.requires.0.terms
 
 -- the work words with the constant's cleared, and what of them is lent to be encoded
 abbrev given : After-clear → List ℕ
 given c =
     let stop = c.terms_end-stop.result in
-    put_mid stop (stop + c.args.p.n - stop) c.args.work.now c.clear.new.work
+    put_mid stop (stop + c.args.p.set.n - stop) c.args.work.now c.clear.new.work
 
 terms : (c : After-clear)
-    → (let n = c.args.p.n in
+    → (let n = c.args.p.set.n in
     TermsLent (set_from c.args.p) c.args.work.now (given c) (mid_of (n + n) (c.terms_end-stop.result + n - (n + n)) (given c)))
 terms c =
     terms_cleared (set_from c.args.p) c.args.work.now c.clear.new.work c.terms_end-stop.ensures.0
     (omega (arith, c.requires.0.sized, c.terms_end-stop.ensures.1)) c.clear.auto.work c.clear.ensures
 
 octets : (c : After-clear) {public : List ℕ}
-    → (let n = c.args.p.n in
+    → (let n = c.args.p.set.n in
     public ≡ encoded c.octets_of_coefficient-qlen.result (mid_of (n + n) (c.terms_end-stop.result + n - (n + n)) (given c))
-    → public ≡ encoded (qlen c.args.p.q) (words_terms (set_from c.args.p) c.args.work.now ++ replicate n 0))
+    → public ≡ encoded (qlen c.args.p.set.q) (words_terms (set_from c.args.p) c.args.work.now ++ replicate n 0))
 octets c made = (rw c.octets_of_coefficient-qlen.ensures at made) ∙ ap (encoded _) (terms c).words
 
 pub encode-requires : goal.encode-requires
@@ -54,7 +54,7 @@ encode-requires c =
     let k = (goal.at.encode-requires c).After-clear in
     let sizes = set_sizes (set_from c.args.p) (set k) c.args.work.now c.requires.0.sized in
     rw c.octets_of_coefficient-qlen.ensures
-    (sizes.octets-least, sizes.octets-most, c.requires.1 ∙ ap (λ (m : ℕ). m * qlen c.args.p.q) (sym (terms k).many))
+    (sizes.octets-least, sizes.octets-most, c.requires.1 ∙ ap (λ (m : ℕ). m * qlen c.args.p.set.q) (sym (terms k).many))
 
 pub write_constant-requires : goal.write_constant-requires
 unfolding public_length elements_length elements_fit decoded_elements

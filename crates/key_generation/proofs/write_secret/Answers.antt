@@ -9,9 +9,9 @@ use Rattle.key_generation.proofs.write_secret.Goals as goal
 
 pub write_half-requires : goal.write_half-requires
 write_half-requires c =
-    (c.requires.0.set, omega (arith, c.requires.0.sized), rw (zero-add c.args.p.n) c.requires.0.x, omega (arith, c.requires.1))
+    (omega (arith, c.requires.0.sized), rw (zero-add c.args.p.set.n) c.requires.0.x, omega (arith, c.requires.1))
 
 pub returns : goal.returns
 returns c =
-    follows_twice (small_length (set_from c.args.p)) c.args.secret.now _ _ _ _ (rw (zero-add c.args.p.n) at c.write_half.ensures)
+    follows_twice (small_length (set_from c.args.p)) c.args.secret.now _ _ _ _ (rw (zero-add c.args.p.set.n) at c.write_half.ensures)
     (rw c.small_length-one.ensures at c.write_half-2.ensures) (c.write_half-2.auto.secret ∙ c.write_half.auto.secret ∙ c.requires.1)

@@ -5,7 +5,7 @@ use Rattle.definitions.proofs.Parameters.{accepted-set, key-degree-most, mask-de
 use Rattle.lengths.proofs.decrypt_exact.Goals as goal
 
 pub ciphertext_length-requires : goal.ciphertext_length-requires
-ciphertext_length-requires c = let set = accepted-set _ c.requires in record { dx_bound = key-degree-most _ set; dr_bound = mask-degree-most _ set }
+ciphertext_length-requires c = let set = accepted-set _ c.args.p.accepted in record { dx_bound = key-degree-most _ set; dr_bound = mask-degree-most _ set }
 
 pub returns : goal.returns
 unfolding decrypt_exact

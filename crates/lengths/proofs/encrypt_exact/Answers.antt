@@ -5,10 +5,10 @@ use Rattle.definitions.proofs.Parameters.{accepted-set, key-degree-most, mask-de
 use Rattle.lengths.proofs.encrypt_exact.Goals as goal
 
 pub ciphertext_length-requires : goal.ciphertext_length-requires
-ciphertext_length-requires c = let set = accepted-set _ c.requires in record { dx_bound = key-degree-most _ set; dr_bound = mask-degree-most _ set }
+ciphertext_length-requires c = let set = accepted-set _ c.args.p.accepted in record { dx_bound = key-degree-most _ set; dr_bound = mask-degree-most _ set }
 
 pub public_length-requires : goal.public_length-requires
-public_length-requires c = key-degree-most _ (accepted-set _ c.requires)
+public_length-requires c = key-degree-most _ (accepted-set _ c.args.p.accepted)
 
 pub returns : goal.returns
 unfolding encrypt_exact

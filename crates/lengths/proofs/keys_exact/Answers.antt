@@ -5,7 +5,7 @@ use Rattle.definitions.proofs.Parameters.{accepted-set, key-degree-most}
 use Rattle.lengths.proofs.keys_exact.Goals as goal
 
 pub public_length-requires : goal.public_length-requires
-public_length-requires c = key-degree-most _ (accepted-set _ c.requires)
+public_length-requires c = key-degree-most _ (accepted-set _ c.args.p.accepted)
 
 pub returns : goal.returns
 unfolding keys_exact

@@ -2,7 +2,7 @@
 -- Assumes nothing.
 use Rattle.std.proofs.Common.{ap, ◌∙◌, arith}
 use Rattle.definitions.specs.Parameters.{elements_length, public_length}
-use Rattle.parameters.specs.Answers.{set_from}
+use Rattle.parameters.specs.Answers.{numbers_from}
 use Rattle.definitions.proofs.Monomials.{count_fifteen}
 use Rattle.lengths.proofs.public_length.Goals as goal
 
@@ -11,4 +11,4 @@ elements_length-requires c = omega (arith, count_fifteen)
 
 pub returns : goal.returns
 unfolding public_length
-returns c = c.elements_length.ensures ∙ ap (elements_length (set_from c.args.p)) c.monomial_count.ensures
+returns c = c.elements_length.ensures ∙ ap (elements_length (numbers_from c.args.set)) c.monomial_count.ensures

@@ -9,8 +9,8 @@ use Rattle.lengths.proofs.secret_length.Goals as goal
 pub overflow_add-result : goal.overflow_add-result
 unfolding small_length
 overflow_add-result c =
-    let n : c.args.p.n ≤ 4294967295 = omega arith in
-    record { fits = omega (arith, mul-le-mul n (small_bits-within c.args.p.l).most) }
+    let n : c.args.set.n ≤ 4294967295 = omega arith in
+    record { fits = omega (arith, mul-le-mul n (small_bits-within c.args.set.l).most) }
 
 pub returns : goal.returns
 unfolding secret_length

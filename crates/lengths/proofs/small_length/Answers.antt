@@ -7,10 +7,10 @@ use Rattle.parameters.proofs.Bounds.{small_bits-within}
 use Rattle.lengths.proofs.small_length.Goals as goal
 use Rattle.lengths.proofs.small_length.Goals.{After-bits}
 
-product : (c : After-bits) → c.args.p.n * c.bits.result ≤ 4294967295 * 4
+product : (c : After-bits) → c.args.set.n * c.bits.result ≤ 4294967295 * 4
 product c =
-    let n : c.args.p.n ≤ 4294967295 = omega arith in
-    let b : c.bits.result ≤ 4 = omega (arith, small_bits-within c.args.p.l) in
+    let n : c.args.set.n ≤ 4294967295 = omega arith in
+    let b : c.bits.result ≤ 4 = omega (arith, small_bits-within c.args.set.l) in
     mul-le-mul n b
 
 pub overflow_mul-result : goal.overflow_mul-result
@@ -21,4 +21,4 @@ overflow_add-result c = record { fits = omega (arith, product (goal.at.overflow_
 
 pub returns : goal.returns
 unfolding small_length
-returns c = ap (λ (b : ℕ). (c.args.p.n * b + 7) / 8) c.bits.ensures
+returns c = ap (λ (b : ℕ). (c.args.set.n * b + 7) / 8) c.bits.ensures

@@ -1,6 +1,5 @@
 -- After j turns the first j terms of the mask are added.
 -- Assumes nothing.
-use Rattle.std.proofs.Common.{◌-◌, ◌≤◌}
 use Rattle.definitions.specs.Calls.{polynomial_from}
 use Rattle.parameters.specs.Answers.{set_from}
 use Rattle.mask_products.specs.Products.{pair_term, first_terms, SumGains}
@@ -8,7 +7,4 @@ use Rattle.mask_products.proofs.add_element.Given as goal
 
 abbrev pub invariant-loop-j : goal.invariant-loop-j
 invariant-loop-j l =
-    (l.j ≤ l.count) × SumGains (set_from l.p) (first_terms l.j (pair_term (set_from l.p) (polynomial_from (set_from l.p) l.public) l.m l.i)) l.initial.work l.work
-
-abbrev pub decreases-loop-j : goal.decreases-loop-j
-decreases-loop-j l = l.count - l.j
+    SumGains (set_from l.p) (first_terms l.j (pair_term (set_from l.p) (polynomial_from (set_from l.p) l.public) l.m l.i)) l.initial.work l.work

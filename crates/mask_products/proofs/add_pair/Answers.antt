@@ -20,13 +20,13 @@ same_monomial-requires c =
     (key-degree-most _ set, mask-degree-most _ set, c.requires.1, c.requires.2, c.requires.0.place)
 
 -- the key's element in part 6
-loaded : (c : After-load_key) → Wrote (6 * c.args.p.n) c.args.p.n (polynomial_from (set_from c.args.p) c.args.public.now c.args.i) c.args.work.now c.load_key.new.work
+loaded : (c : After-load_key) → Wrote (6 * c.args.p.set.n) c.args.p.set.n (polynomial_from (set_from c.args.p) c.args.public.now c.args.i) c.args.work.now c.load_key.new.work
 loaded c = wrote (omega (arith, inputs-room c.requires.0.inputs)) c.load_key.ensures
 
-pub multiply_mask-requires-clause-accepted_set : goal.multiply_mask-requires-clause-accepted_set
-multiply_mask-requires-clause-accepted_set c =
+pub multiply_mask-requires-clause-work_exact : goal.multiply_mask-requires-clause-work_exact
+multiply_mask-requires-clause-work_exact c =
     let g = c.requires.0.inputs in
-    (g.set, (loaded (goal.at.multiply_mask-requires-clause-accepted_set c).After-load_key).as_long ∙ g.work-exact, mask-few g c.requires.2)
+    ((loaded (goal.at.multiply_mask-requires-clause-work_exact c).After-load_key).as_long ∙ g.work-exact, mask-few g c.requires.2)
 
 pub multiply_mask-requires-clause-in_ring : goal.multiply_mask-requires-clause-in_ring
 multiply_mask-requires-clause-in_ring c =
@@ -44,4 +44,4 @@ returns c =
     let same : c.same_monomial.result ≡ true = cc in
     let one = flag_one c.same_monomial.result c.same_monomial.ensures (ap not same) in
     gains_spare (pair_term p (polynomial_from p c.args.public.now) c.args.m c.args.i c.args.j) w c.multiply_mask.ensures
-    (λ k l. conv_cong c.args.p.n w.inside (λ i b. refl) k ∙ rw (one, mul-one))
+    (λ k l. conv_cong c.args.p.set.n w.inside (λ i b. refl) k ∙ rw (one, mul-one))

@@ -1,6 +1,5 @@
 -- After i turns the terms of the key's first i elements are added.
 -- Assumes nothing.
-use Rattle.std.proofs.Common.{◌-◌, ◌≤◌}
 use Rattle.definitions.specs.Calls.{polynomial_from}
 use Rattle.parameters.specs.Answers.{set_from}
 use Rattle.mask_products.specs.Products.{first_terms, element_terms, SumGains}
@@ -8,7 +7,4 @@ use Rattle.mask_products.proofs.product_at.Given as goal
 
 abbrev pub invariant-loop-i : goal.invariant-loop-i
 invariant-loop-i l =
-    (l.i ≤ l.count) × SumGains (set_from l.p) (first_terms l.i (element_terms (set_from l.p) (polynomial_from (set_from l.p) l.public) l.m)) l.initial.work l.work
-
-abbrev pub decreases-loop-i : goal.decreases-loop-i
-decreases-loop-i l = l.count - l.i
+    SumGains (set_from l.p) (first_terms l.i (element_terms (set_from l.p) (polynomial_from (set_from l.p) l.public) l.m)) l.initial.work l.work

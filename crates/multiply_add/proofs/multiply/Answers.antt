@@ -2,7 +2,9 @@
 -- Assumes nothing.
 use Rattle.std.proofs.Common.{arith}
 use Rattle.definitions.proofs.Parameters.{accepted-set}
+use Rattle.parameters.specs.Answers.{set_from}
 use Rattle.multiply_add.proofs.multiply.Goals as goal
 
-pub multiply_in-requires-2 : goal.multiply_in-requires-2
-multiply_in-requires-2 c = (c.requires.0, c.requires.1, omega (arith, (accepted-set _ c.requires.0).ring_most))
+pub multiply_in_array-requires-else-p-le1280 : goal.multiply_in_array-requires-else-p-le1280
+multiply_in_array-requires-else-p-le1280 c =
+    (c.requires, omega (arith, (accepted-set (set_from c.args.p) c.args.p.accepted).ring_most), omega arith)

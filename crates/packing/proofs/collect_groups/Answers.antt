@@ -10,8 +10,5 @@ loop-g-preserved c =
     let a = c.args in
     let l = c.loop-g in
     let room : (a.start + l.g) * (a.many * 8) + a.many * 8 ≤ length a.words.now
-    = place_end (a.start + l.g) (a.many * 8) {count = a.start + a.some} (omega arith) c.requires.3 in (
-      omega arith,
-      omega arith,
-      collect_step a.b a.many a.start l.g a.words.now l.lanes (omega arith) room c.collect.ensures l.invariant.2,
-    )
+    = place_end (a.start + l.g) (a.many * 8) {count = a.start + a.some} (omega arith) c.requires.3 in
+    collect_step a.b a.many a.start l.g a.words.now l.lanes (omega arith) room c.collect.ensures l.invariant

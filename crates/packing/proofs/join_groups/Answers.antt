@@ -1,6 +1,6 @@
 -- A turn puts the octets of a group behind those of the groups before.
 -- Assumes nothing.
-use Rattle.std.proofs.Common.{◌+◌, ◌*◌, ◌≤◌, length, take, refl, sym, arith}
+use Rattle.std.proofs.Common.{◌+◌, ◌*◌, ◌≤◌, length, take, sym, arith}
 use mathlib.Core.List.{append-nil}
 use native.Mathlib.Nat.{add-zero}
 use Rattle.definitions.specs.Sequences.{tabulate, joined}
@@ -14,7 +14,7 @@ use Rattle.packing.proofs.join_groups.Goals as goal
 
 pub loop-g-init : goal.loop-g-init
 unfolding encoded joined tabulate
-loop-g-init c = (omega arith, refl, rw (add-zero c.args.start) (sym (append-nil _)))
+loop-g-init c = rw (add-zero c.args.start) (sym (append-nil _))
 
 pub join-requires : goal.join-requires
 unfolding lane_number
@@ -29,10 +29,7 @@ loop-g-preserved c =
     let l = c.loop-g in
     let len = a.many * a.b in
     let room : (a.start + l.g) * (a.many * a.b) + a.many * a.b ≤ length l.octets
-    = place_end (a.start + l.g) (a.many * a.b) {count = a.start + a.some} (omega arith) (rw l.invariant.1 c.requires.sizes.3) in
-    let written = take_stored_fields ((a.start + l.g) * len) len c.join.result l.octets room c.store.ensures in (
-      omega arith,
-      omega arith,
-      join_step len a.start l.g (take (a.start * len) a.octets.now) l.octets c.store.new.octets (lane_number a.b a.lanes.now) c.join.ensures
-          l.invariant.2 written,
-    )
+    = place_end (a.start + l.g) (a.many * a.b) {count = a.start + a.some} (omega arith) (rw l.auto.octets c.requires.sizes.3) in
+    let written = take_stored_fields ((a.start + l.g) * len) len c.join.result l.octets room c.store.ensures in
+    join_step len a.start l.g (take (a.start * len) a.octets.now) l.octets c.store.new.octets (lane_number a.b a.lanes.now) c.join.ensures l.invariant
+    written

@@ -10,8 +10,8 @@ loop-k-init c = writing_none (omega arith)
 
 pub folded-requires : goal.folded-requires
 folded-requires c =
-    let k = c.loop-k.k in
-    (c.requires.in_ring.1 k (omega arith), c.requires.in_ring.1 (c.args.n + k) (omega arith), writing_own_ring c.loop-k.invariant c.requires.in_ring.0 (omega arith), c.requires.n_in_bounds.2)
+    let ring = c.requires.in_ring in
+    (ring.1 _ (omega arith), ring.1 _ (omega arith), writing_own_ring c.loop-k.invariant ring.0 (omega arith), c.requires.n_in_bounds.2)
 
 pub loop-k-preserved : goal.loop-k-preserved
 loop-k-preserved c =

@@ -14,8 +14,8 @@ overflow_add-low c = omega (arith, c.requires.sums_fit c.loop-k.k (omega arith))
 
 pub sum-requires : goal.sum-requires
 sum-requires c =
-    let m = c.requires.n_in_bounds in
-    (rw c.remainder-s.ensures (mod-lt _ m.2.least), writing_own_ring c.loop-k.invariant m.3 (omega arith), m.2.most)
+    let exact = c.args.modulus.exact in
+    (omega (arith, c.remainder-s.ensures, mod-lt), writing_own_ring c.loop-k.invariant c.requires.n_in_bounds.2 (omega arith), exact.most)
 
 pub loop-k-preserved : goal.loop-k-preserved
 loop-k-preserved c =

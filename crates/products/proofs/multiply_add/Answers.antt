@@ -17,6 +17,6 @@ pub returns-then-q-top-le-UNCUT-clause-multiplied_in_place : goal.returns-then-q
 returns-then-q-top-le-UNCUT-clause-multiplied_in_place c =
     three (goal.at.returns-then-q-top-le-UNCUT-clause-multiplied_in_place c).After-with_reciprocal-modulus c.short.ensures
 
-pub returns-clause-multiplied_in_place : goal.returns-clause-multiplied_in_place
-returns-clause-multiplied_in_place c =
-    three (goal.at.returns-clause-multiplied_in_place c).After-with_reciprocal-modulus c.multiply_long.ensures
+pub returns-else-n-le-SHORT-clause-multiplied_in_place : goal.returns-else-n-le-SHORT-clause-multiplied_in_place
+returns-else-n-le-SHORT-clause-multiplied_in_place c =
+    three (goal.at.returns-else-n-le-SHORT-clause-multiplied_in_place c).After-with_reciprocal-modulus c.multiply_long.ensures

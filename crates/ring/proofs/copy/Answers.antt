@@ -1,13 +1,16 @@
--- `ring::copy` meets its contract: a turn copies the word of its place from the other part, which is not written.
+-- `ring::copy` meets its contract: the words that are copied are those of the other part.
 -- Assumes nothing.
-use Rattle.std.proofs.Common.{refl, arith}
-use Rattle.ring.proofs.Work.{writing_none, writing_more, writing_apart}
+use Rattle.std.proofs.Common.{◌≡◌, ◌+◌, ◌-◌, ◌∙◌, arith}
+use mathlib.Core.List.{append_assoc}
+use Rattle.definitions.proofs.Sums.{length-tabulate}
+use Rattle.ring.specs.Work.{part, written}
+use Rattle.ring.proofs.Work.{part_words}
 use Rattle.ring.proofs.copy.Goals as goal
 
-pub loop-k-init : goal.loop-k-init
-loop-k-init c = writing_none (omega arith)
-
-pub loop-k-preserved : goal.loop-k-preserved
-loop-k-preserved c =
-    let w = c.loop-k.invariant in
-    writing_more w refl c.loop-k-test.true (writing_apart w c.args.from c.requires.2 c.loop-k-test.true)
+pub returns : goal.returns
+unfolding written
+returns c =
+    let a = c.args in
+    let whole : a.from + a.n - a.from ≡ a.n = omega arith in
+    let long = length-tabulate a.n (part a.work.now a.from) in
+    c.copy_within.ensures.after ∙ rw (whole, part_words a.from a.n a.work.now (omega arith), long) (simp append_assoc)

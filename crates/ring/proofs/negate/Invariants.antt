@@ -7,6 +7,3 @@ use Rattle.ring.proofs.negate.Given as goal
 
 abbrev pub invariant-loop-k : goal.invariant-loop-k
 invariant-loop-k l = WritingWords l.a l.n (λ j. (l.q - part l.initial.work l.a j) % l.q) l.initial.work l.k l.work
-
-abbrev pub decreases-loop-k : goal.decreases-loop-k
-decreases-loop-k l = l.n - l.k

@@ -1,24 +1,13 @@
--- `vanishes` looks at one word a turn, and stops at the first that is not 0.
+-- `ring::vanishes` meets its contract: `all` asks of each place what `every` asks.
 -- Assumes nothing.
-use Rattle.std.proofs.Common.{◌+◌, arith, rules}
-use Rattle.ring.proofs.Zeros.{zero_to_more, vanishes_all, vanishes_not}
+use Rattle.std.proofs.Common.{refl, eqb, get_or, rules, tests, ◌∙◌}
+use Rattle.std.proofs.lemmas.Iterator.{YieldsList-from_range}
+use Rattle.std.proofs.lemmas.Iterator.Search.{all_from_yields_List}
+use Rattle.ring.proofs.Zeros.{range-every}
 use Rattle.ring.proofs.vanishes.Goals as goal
 
-pub loop-i-init : goal.loop-i-init
-loop-i-init c =
-    record {
-      low = omega arith;
-      zeros = λ j lo hi. absurd (omega arith);
-      ends = vanishes_not c.args.work.now c.args.from c.args.end c.args.from (omega arith);
-    }
-
-pub loop-i-preserved : goal.loop-i-preserved
-loop-i-preserved c =
-    record {
-      low = omega arith;
-      zeros = zero_to_more c.args.work.now c.args.from c.args.end c.loop-i.i c.loop-i.invariant.zeros (search rules);
-      ends = vanishes_not c.args.work.now c.args.from c.args.end (c.loop-i.i + 1) (omega arith);
-    }
-
 pub returns : goal.returns
-returns c = vanishes_all c.args.work.now c.args.from c.args.end c.loop-i.i c.loop-i-test.false c.loop-i.invariant.zeros
+returns c =
+    let a = c.args in
+    let e = all_from_yields_List (λ i. eqb (get_or a.work.now i 0) 0) _ _ c.all.result c.all.ensures.ran (YieldsList-from_range a.from a.end _ refl refl) (λ x b q k. search (rules, tests)) in
+    e ∙ range-every _ a.from _

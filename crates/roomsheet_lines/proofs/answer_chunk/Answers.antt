@@ -4,4 +4,4 @@ use Rattle.roomsheet_lines.proofs.Buffers.{chunk-answered}
 use Rattle.roomsheet_lines.proofs.answer_chunk.Goals as goal
 
 pub returns : goal.returns
-returns c = chunk-answered _ _ c.requires _ _ c.answer_lines-lines.ensures _ c.kept_of-kept.ensures _ c.move_front.ensures
+returns c = chunk-answered _ _ c.requires _ _ c.answer_lines-used.ensures _ c.kept_of-kept.ensures _ c.copy_within.ensures.after

@@ -4,8 +4,8 @@ use Rattle.std.proofs.Common.{◌-◌, length}
 use Rattle.roomsheet_lines.proofs.Buffers.{Answering}
 use Rattle.roomsheet_lines.proofs.answer_lines.Given as goal
 
-abbrev pub invariant-loop-out : goal.invariant-loop-out
-invariant-loop-out l = Answering l.text l.fn.out l.out l.used l.written
+abbrev pub invariant-loop-end : goal.invariant-loop-end
+invariant-loop-end l = Answering l.text l.initial.answers l.answers l.used
 
-abbrev pub decreases-loop-out : goal.decreases-loop-out
-decreases-loop-out l = length l.text - l.used
+abbrev pub decreases-loop-end : goal.decreases-loop-end
+decreases-loop-end l = length l.text - l.used

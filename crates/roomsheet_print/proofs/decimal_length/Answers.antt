@@ -1,13 +1,15 @@
--- `decimal_length` meets its contract: each turn of the loop is a law of Counting.
+-- Each power that the number reaches is counted.
 -- Assumes nothing.
-use Rattle.roomsheet_print.proofs.Printing.{counting_start, counting_next, counting_end}
+use Rattle.std.proofs.Common.{arith}
+use Rattle.roomsheet_print.proofs.Printing.{powers_more, powers_reached}
 use Rattle.roomsheet_print.proofs.decimal_length.Goals as goal
+use Rattle.roomsheet_print.proofs.decimal_length.Goals.{then-power-x, else-power-x}
 
-pub loop-k-init : goal.loop-k-init
-loop-k-init c = counting_start _
-
-pub loop-k-preserved : goal.loop-k-preserved
-loop-k-preserved c = counting_next _ _ _ _ c.loop-k.invariant c.loop-k-test.true
+pub loop-power-preserved : goal.loop-power-preserved
+loop-power-preserved c =
+    powers_more _ _ _ _ c.loop-power.invariant c.loop-power-test.true
+    (λ h. elim c.if-power-x.branch [ then-power-x w ↦ w.digits-is | else-power-x w ↦ absurd (omega arith) ])
+    (λ h. elim c.if-power-x.branch [ then-power-x w ↦ absurd (omega arith) | else-power-x w ↦ w.digits-is ])
 
 pub returns : goal.returns
-returns c = counting_end _ _ _ _ c.loop-k.invariant c.loop-k-test.false
+returns c = powers_reached _ _ _ c.loop-power.invariant (omega arith)

@@ -1,11 +1,9 @@
--- `decimal_length` meets its contract: after k turns it has counted the first k powers of ten that the number reaches.
+-- `decimal_length` meets its contract: it has counted the powers of ten that the number reaches, of those compared.
 -- Assumes nothing.
-use Rattle.std.proofs.Common.{◌-◌}
-use Rattle.roomsheet_print.proofs.Printing.{Counting}
+use Rattle.std.proofs.Common.{◌≡◌, ◌+◌, leb, take}
+use Rattle.std.specs.List.{count_by}
+use Rattle.roomsheet_print.proofs.Printing.{powers}
 use Rattle.roomsheet_print.proofs.decimal_length.Given as goal
 
-abbrev pub invariant-loop-k : goal.invariant-loop-k
-invariant-loop-k l = Counting l.x l.power l.digits l.k
-
-abbrev pub decreases-loop-k : goal.decreases-loop-k
-decreases-loop-k l = 9 - l.k
+abbrev pub invariant-loop-power : goal.invariant-loop-power
+invariant-loop-power l = l.digits ≡ count_by (λ p. leb p l.x) (take l.power-index powers) + 1

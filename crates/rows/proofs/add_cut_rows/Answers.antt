@@ -1,7 +1,7 @@
 -- `rows::add_cut_rows` meets its contract: at each place that the eight rows reach, their two sums are cut and each half goes to its word; at
 -- all others the rows hold nothing.
 -- Assumes nothing.
-use Rattle.std.proofs.Common.{◌+◌, ◌%◌, ◌/◌, refl, arith}
+use Rattle.std.proofs.Common.{◌+◌, ◌%◌, ◌/◌, refl, arith, length}
 use Rattle.ring.proofs.Work.{writing_none, writing_more, writing_own, writing_all}
 use Rattle.rows.proofs.Rows.{row-sum_asked, row-sum_rows, rows_added}
 use Rattle.rows.proofs.add_cut_rows.Goals as goal
@@ -20,14 +20,8 @@ row_sum-t-requires c =
     record { a0_bound = r.0; k_in_bounds = r.1 }
 
 -- the two words of this turn are as they were at entry, and below 2^63
-pub overflow_add-low-in-loop-k : goal.overflow_add-low-in-loop-k
-overflow_add-low-in-loop-k c = omega (arith, writing_own c.loop-k.invariant.0, c.requires.sums_fit.0 (c.args.i + c.loop-k.k))
-
 pub overflow_add-low-in-loop-k-2 : goal.overflow_add-low-in-loop-k-2
 overflow_add-low-in-loop-k-2 c = omega (arith, writing_own c.loop-k.invariant.0, c.requires.sums_fit.0 (c.args.i + c.loop-k.k))
-
-pub overflow_add-high-in-loop-k : goal.overflow_add-high-in-loop-k
-overflow_add-high-in-loop-k c = omega (arith, writing_own c.loop-k.invariant.1, c.requires.sums_fit.1 (c.args.i + c.loop-k.k))
 
 pub overflow_add-high-in-loop-k-2 : goal.overflow_add-high-in-loop-k-2
 overflow_add-high-in-loop-k-2 c = omega (arith, writing_own c.loop-k.invariant.1, c.requires.sums_fit.1 (c.args.i + c.loop-k.k))
@@ -43,10 +37,10 @@ loop-k-preserved c =
 
 pub returns-clause-low_added : goal.returns-clause-low_added
 returns-clause-low_added c =
-    rows_added (λ s. s % 4398046511104) refl c.args.m _ _ c.args.i c.args.low.now c.requires.operands.2
+    rows_added (λ s. s % 4398046511104) refl (length c.args.a.now) _ _ c.args.i c.args.low.now c.requires.operands.2
     (writing_all c.loop-k.invariant.0 (omega arith))
 
 pub returns-clause-high_added : goal.returns-clause-high_added
 returns-clause-high_added c =
-    rows_added (λ s. s / 4398046511104) refl c.args.m _ _ c.args.i c.args.high.now c.requires.operands.3
+    rows_added (λ s. s / 4398046511104) refl (length c.args.a.now) _ _ c.args.i c.args.high.now c.requires.operands.3
     (writing_all c.loop-k.invariant.1 (omega arith))

@@ -1,6 +1,7 @@
 -- At the places before k of those that the eight rows reach, their two sums are cut and added.
 -- Assumes nothing.
-use Rattle.std.proofs.Common.{◌+◌, ◌-◌, ◌%◌, ◌/◌}
+use Rattle.std.proofs.Common.{◌+◌, ◌%◌, ◌/◌, length}
+use Rattle.definitions.specs.Ring.{element_of}
 use Rattle.ring.specs.Work.{part}
 use Rattle.ring.proofs.Work.{WritingWords}
 use Rattle.rows.specs.Rows.{eight_rows}
@@ -8,14 +9,11 @@ use Rattle.rows.proofs.add_cut_rows.Given as goal
 
 abbrev pub invariant-loop-k : goal.invariant-loop-k
 invariant-loop-k l =
-    WritingWords l.i (l.m + 7)
-    (λ j. part l.initial.low l.i j + eight_rows (λ s. s % 4398046511104) l.m (part l.words l.at) (part l.row 7) l.i (l.i + j))
+    WritingWords l.i (length l.a + 7)
+    (λ j. part l.initial.low l.i j + eight_rows (λ s. s % 4398046511104) (length l.a) (element_of l.a) (part l.row 7) l.i (l.i + j))
     l.initial.low
     l.k l.low
-    × WritingWords l.i (l.m + 7)
-    (λ j. part l.initial.high l.i j + eight_rows (λ s. s / 4398046511104) l.m (part l.words l.at) (part l.row 7) l.i (l.i + j))
+    × WritingWords l.i (length l.a + 7)
+    (λ j. part l.initial.high l.i j + eight_rows (λ s. s / 4398046511104) (length l.a) (element_of l.a) (part l.row 7) l.i (l.i + j))
     l.initial.high
     l.k l.high
-
-abbrev pub decreases-loop-k : goal.decreases-loop-k
-decreases-loop-k l = l.m + 7 - l.k

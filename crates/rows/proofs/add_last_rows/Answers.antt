@@ -1,7 +1,7 @@
 -- `rows::add_last_rows` meets its contract: at each place that the four rows reach, their sum is added; at all others they hold nothing, and
 -- the four rows after them are past the last.
 -- Assumes nothing.
-use Rattle.std.proofs.Common.{◌+◌, refl, arith}
+use Rattle.std.proofs.Common.{◌+◌, refl, arith, length}
 use Rattle.ring.proofs.Work.{writing_none, writing_more, writing_own, writing_all}
 use Rattle.rows.proofs.Rows.{row-sum_asked, row-sum_rows, last_rows_added}
 use Rattle.rows.proofs.add_last_rows.Goals as goal
@@ -29,5 +29,5 @@ loop-k-preserved c =
 
 pub returns : goal.returns
 returns c =
-    last_rows_added c.args.m _ _ c.args.i c.args.low.now c.requires.operands.2 c.requires.operands.3
+    last_rows_added (length c.args.a.now) _ _ c.args.i c.args.low.now c.requires.operands.2 c.requires.operands.3
     (writing_all c.loop-k.invariant (omega arith))

@@ -1,6 +1,7 @@
 -- At the places before k of those that the eight rows reach, their two sums are added.
 -- Assumes nothing.
-use Rattle.std.proofs.Common.{◌+◌, ◌-◌}
+use Rattle.std.proofs.Common.{◌+◌, length}
+use Rattle.definitions.specs.Ring.{element_of}
 use Rattle.ring.specs.Work.{part}
 use Rattle.ring.proofs.Work.{WritingWords}
 use Rattle.rows.specs.Rows.{eight_rows}
@@ -8,9 +9,6 @@ use Rattle.rows.proofs.add_rows.Given as goal
 
 abbrev pub invariant-loop-k : goal.invariant-loop-k
 invariant-loop-k l =
-    WritingWords l.i (l.m + 7) (λ j. part l.initial.low l.i j + eight_rows (λ s. s) l.m (part l.words l.at) (part l.row 7) l.i (l.i + j))
+    WritingWords l.i (length l.a + 7) (λ j. part l.initial.low l.i j + eight_rows (λ s. s) (length l.a) (element_of l.a) (part l.row 7) l.i (l.i + j))
     l.initial.low
     l.k l.low
-
-abbrev pub decreases-loop-k : goal.decreases-loop-k
-decreases-loop-k l = l.m + 7 - l.k

@@ -4,10 +4,10 @@ use borrow.Author.Tests.{lt-ltb, le-ltb}
 use Rattle.rows.specs.Rows.{padded}
 use Rattle.rows.proofs.factor.Goals as goal
 
-pub returns-then-i-m : goal.returns-then-i-m
+pub returns-then-i-a : goal.returns-then-i-a
 unfolding padded
-returns-then-i-m c = simp (lt-ltb _ _ c.if-i-m.true)
+returns-then-i-a c = simp (lt-ltb _ _ c.if-i-a.true)
 
-pub returns-else-i-m : goal.returns-else-i-m
+pub returns-else-i-a : goal.returns-else-i-a
 unfolding padded
-returns-else-i-m c = simp (le-ltb _ _ c.if-i-m.false)
+returns-else-i-a c = simp (le-ltb _ _ c.if-i-a.false)

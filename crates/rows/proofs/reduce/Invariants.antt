@@ -1,11 +1,8 @@
 -- The sums before k are reduced.
 -- Assumes nothing.
-use Rattle.std.proofs.Common.{◌-◌, ◌%◌, get_or}
+use Rattle.std.proofs.Common.{◌%◌, get_or}
 use Rattle.ring.proofs.Work.{WritingWords}
 use Rattle.rows.proofs.reduce.Given as goal
 
 abbrev pub invariant-loop-k : goal.invariant-loop-k
 invariant-loop-k l = WritingWords 0 l.n (λ j. get_or l.low j 0 % l.modulus.q) l.initial.product l.k l.product
-
-abbrev pub decreases-loop-k : goal.decreases-loop-k
-decreases-loop-k l = l.n - l.k

@@ -12,10 +12,10 @@ loop-k-init c = writing_none (omega arith)
 
 pub overflow_add-high : goal.overflow_add-high
 overflow_add-high c =
-    let reciprocal = c.requires.n_in_bounds.3 in
+    let exact = c.args.modulus.exact in
     record {
       fits =
-          folded_small (c.requires.in_ring.1 c.loop-k.k (omega arith)) (lt_trans (mod-lt _ reciprocal.least) reciprocal.most)
+          folded_small (c.requires.in_ring.1 c.loop-k.k (omega arith)) (lt_trans (mod-lt _ exact.least) exact.most)
           (c.requires.in_ring.0 c.loop-k.k (omega arith));
     }
 

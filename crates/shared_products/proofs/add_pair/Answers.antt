@@ -16,23 +16,23 @@ use Rattle.shared_products.proofs.add_pair.Goals.{After-subtract_from}
 
 -- the first product of the diagonal is taken away
 taken : (c : After-subtract_from) →
-    SumGains (set_from c.args.p) (λ mask k. c.args.p.q - part c.args.list.now c.diagonal_at-first.result k) c.multiply_sums.new.work c.subtract_from.new.work
+    SumGains (set_from c.args.p) (λ mask k. c.args.p.set.q - part c.args.list.now c.diagonal_at-first.result k) c.multiply_sums.new.work c.subtract_from.new.work
 taken c = sum_gains (set_from c.args.p) (wrote (omega (arith, c.multiply_sums.ensures.is.as_long, shared_room c.requires.0.inputs)) c.subtract_from.ensures)
 
 pub same_monomial-requires : goal.same_monomial-requires
 same_monomial-requires c =
     let g = c.requires.0.inputs in
     let set = shared_set g in
-    let second : c.args.j < monomial_count c.args.p.dx = omega (arith, c.requires.1, c.requires.2) in
+    let second : c.args.j < monomial_count c.args.p.set.dx = omega (arith, c.requires.1, c.requires.2) in
     (key-degree-most _ set, mask-degree-most _ set, c.requires.1, rw (← g.one-degree) second, c.requires.0.place)
 
 pub diagonal_at-first-requires : goal.diagonal_at-first-requires
-diagonal_at-first-requires c = (c.requires.0.inputs.set, place-few c.requires.0.inputs c.requires.1)
+diagonal_at-first-requires c = place-few c.requires.0.inputs c.requires.1
 
 pub diagonal_at-second-requires : goal.diagonal_at-second-requires
 diagonal_at-second-requires c =
-    let second : c.args.j < monomial_count c.args.p.dx = omega (arith, c.requires.1, c.requires.2) in
-    (c.requires.0.inputs.set, place-few c.requires.0.inputs second)
+    let second : c.args.j < monomial_count c.args.p.set.dx = omega (arith, c.requires.1, c.requires.2) in
+    place-few c.requires.0.inputs second
 
 pub subtract_from-requires-clause-n_in_bounds : goal.subtract_from-requires-clause-n_in_bounds
 subtract_from-requires-clause-n_in_bounds c =
@@ -51,7 +51,7 @@ pub subtract_from-requires-2-clause-n_in_bounds : goal.subtract_from-requires-2-
 subtract_from-requires-2-clause-n_in_bounds c =
     let g = c.requires.0.inputs in
     let sum = (taken (goal.at.subtract_from-requires-2-clause-n_in_bounds c).After-subtract_from).is in
-    let second : c.args.j < monomial_count c.args.p.dx = omega (arith, c.requires.1, c.requires.2) in (
+    let second : c.args.j < monomial_count c.args.p.set.dx = omega (arith, c.requires.1, c.requires.2) in (
       omega (arith, sum.as_long, c.multiply_sums.ensures.is.as_long, shared_room g),
       diagonal_inside g c.diagonal_at-second.ensures second,
       omega (arith, (shared_set g).modulus-most),
@@ -61,7 +61,7 @@ pub subtract_from-requires-2-clause-in_ring : goal.subtract_from-requires-2-clau
 subtract_from-requires-2-clause-in_ring c =
     let g = c.requires.0.inputs in
     let sum = (taken (goal.at.subtract_from-requires-2-clause-in_ring c).After-subtract_from).is in
-    let second : c.args.j < monomial_count c.args.p.dx = omega (arith, c.requires.1, c.requires.2) in
+    let second : c.args.j < monomial_count c.args.p.set.dx = omega (arith, c.requires.1, c.requires.2) in
     (sum_in_ring (modulus_positive _ (shared_set g)) sum, diagonal_below g c.diagonal_at-second.ensures second)
 
 pub returns : goal.returns

@@ -1,6 +1,5 @@
 -- `add_row`: the square is added first; after j turns the first j pairs are added too.
 -- Assumes nothing.
-use Rattle.std.proofs.Common.{◌-◌, ◌≤◌}
 use Rattle.parameters.specs.Answers.{set_from}
 use Rattle.mask_products.specs.Products.{first_terms, SumGains}
 use Rattle.shared_products.specs.Sharing.{key_in, both_terms}
@@ -8,7 +7,4 @@ use Rattle.shared_products.proofs.add_row.Given as goal
 
 abbrev pub invariant-loop-j : goal.invariant-loop-j
 invariant-loop-j l =
-    (l.j ≤ l.i) × SumGains (set_from l.p) (first_terms l.j (both_terms (set_from l.p) (key_in (set_from l.p) l.list) l.m l.i)) l.initial.work l.work
-
-abbrev pub decreases-loop-j : goal.decreases-loop-j
-decreases-loop-j l = l.i - l.j
+    SumGains (set_from l.p) (first_terms l.j (both_terms (set_from l.p) (key_in (set_from l.p) l.list) l.m l.i)) l.initial.work l.work

@@ -17,7 +17,7 @@ same_monomial-requires c =
     (key-degree-most _ set, mask-degree-most _ set, c.requires.1, rw (← g.one-degree) c.requires.1, c.requires.0.place)
 
 pub diagonal_at-requires : goal.diagonal_at-requires
-diagonal_at-requires c = (c.requires.0.inputs.set, place-few c.requires.0.inputs c.requires.1)
+diagonal_at-requires c = place-few c.requires.0.inputs c.requires.1
 
 pub add_from-requires-clause-n_in_bounds : goal.add_from-requires-clause-n_in_bounds
 add_from-requires-clause-n_in_bounds c =

@@ -9,15 +9,15 @@ use Rattle.shared_products.proofs.diagonal_at.Goals.{After-monomial_count}
 
 -- how many elements stand before it
 few : (c : After-monomial_count) → c.monomial_count.result + c.args.i ≤ 12
-few c = omega (arith, c.monomial_count.ensures, count-six c.args.p.dx (key-degree-most _ (accepted-set _ c.requires.0)), c.requires.1)
+few c = omega (arith, c.monomial_count.ensures, count-six c.args.p.set.dx (key-degree-most _ (accepted-set _ c.args.p.accepted)), c.requires)
 
 pub monomial_count-requires : goal.monomial_count-requires
-monomial_count-requires c = omega (arith, key-degree-most _ (accepted-set _ c.requires.0))
+monomial_count-requires c = omega (arith, key-degree-most _ (accepted-set _ c.args.p.accepted))
 
 pub overflow_add-result : goal.overflow_add-result
 overflow_add-result c = record { fits = omega (arith, few (goal.at.overflow_add-result c).After-monomial_count) }
 
 pub overflow_mul-result : goal.overflow_mul-result
 overflow_mul-result c =
-    let most : c.args.p.n ≤ 4096 = (accepted-set _ c.requires.0).ring_most in
+    let most : c.args.p.set.n ≤ 4096 = (accepted-set _ c.args.p.accepted).ring_most in
     record { fits = omega (arith, mul-le-mul (few (goal.at.overflow_mul-result c).After-monomial_count) most) }

@@ -16,18 +16,18 @@ pub add_from-requires-clause-n_in_bounds : goal.add_from-requires-clause-n_in_bo
 add_from-requires-clause-n_in_bounds c =
     let g = c.requires.0 in
     let w = wrote (omega (arith, shared_room g)) c.copy_from.ensures in
-    let second : c.args.j < monomial_count c.args.p.dx = omega (arith, c.requires.1, c.requires.2) in
+    let second : c.args.j < monomial_count c.args.p.set.dx = omega (arith, c.requires.1, c.requires.2) in
     (omega (arith, w.as_long, shared_room g), key-inside g second, omega (arith, (shared_set g).modulus-most))
 
 pub add_from-requires-clause-in_ring : goal.add_from-requires-clause-in_ring
 add_from-requires-clause-in_ring c =
     let g = c.requires.0 in
     let w = wrote (omega (arith, shared_room g)) c.copy_from.ensures in
-    let second : c.args.j < monomial_count c.args.p.dx = omega (arith, c.requires.1, c.requires.2) in
+    let second : c.args.j < monomial_count c.args.p.set.dx = omega (arith, c.requires.1, c.requires.2) in
     (inside_ring w (g.key c.args.i c.requires.1), g.key c.args.j second)
 
 pub returns : goal.returns
 returns c =
     let key = key_in (set_from c.args.p) c.args.list.now in
-    sum-written c.args.p.n c.args.p.q (6 * c.args.p.n) (key c.args.i) (key c.args.j) c.args.work.now
+    sum-written c.args.p.set.n c.args.p.set.q (6 * c.args.p.set.n) (key c.args.i) (key c.args.j) c.args.work.now
     (omega (arith, shared_room c.requires.0)) c.copy_from.ensures c.add_from.ensures

@@ -18,26 +18,26 @@ use Rattle.shared_products.proofs.multiply_sums.Goals as goal
 use Rattle.shared_products.proofs.multiply_sums.Goals.{After-load_sum, After-add}
 
 -- the parts of r_i and r_j
-at : (c : After-load_sum) → c.args.i * c.args.p.n + c.args.p.n ≤ 6 * c.args.p.n
-at c = part_room c.args.p.n c.args.i 6 (place-few c.requires.0 c.requires.1)
+at : (c : After-load_sum) → c.args.i * c.args.p.set.n + c.args.p.set.n ≤ 6 * c.args.p.set.n
+at c = part_room c.args.p.set.n c.args.i 6 (place-few c.requires.0 c.requires.1)
 
-apart : (c : After-load_sum) → c.args.j * c.args.p.n + c.args.p.n ≤ c.args.i * c.args.p.n
-apart c = part_room c.args.p.n c.args.j c.args.i c.requires.2
+apart : (c : After-load_sum) → c.args.j * c.args.p.set.n + c.args.p.set.n ≤ c.args.i * c.args.p.set.n
+apart c = part_room c.args.p.set.n c.args.j c.args.i c.requires.2
 
-mask_first : (c : After-load_sum) → InRing c.args.p.q c.args.p.n (part c.args.work.now (c.args.i * c.args.p.n))
+mask_first : (c : After-load_sum) → InRing c.args.p.set.q c.args.p.set.n (part c.args.work.now (c.args.i * c.args.p.set.n))
 mask_first c k l = rw (← mask_at (set_from c.args.p) c.args.work.now (place-few c.requires.0 c.requires.1) l) (c.requires.0.mask c.args.i c.requires.1 k l)
 
-mask-second : (c : After-load_sum) → InRing c.args.p.q c.args.p.n (part c.args.work.now (c.args.j * c.args.p.n))
+mask-second : (c : After-load_sum) → InRing c.args.p.set.q c.args.p.set.n (part c.args.work.now (c.args.j * c.args.p.set.n))
 mask-second c k l =
-    let second : c.args.j < monomial_count c.args.p.dx = omega (arith, c.requires.1, c.requires.2) in
+    let second : c.args.j < monomial_count c.args.p.set.dx = omega (arith, c.requires.1, c.requires.2) in
     rw (← mask_at (set_from c.args.p) c.args.work.now (place-few c.requires.0 second) l) (c.requires.0.mask c.args.j second k l)
 
 -- both sums stand
 stand : (c : After-add) →
-    Sums (set_from c.args.p) c.args.i c.args.j (λ k. pair_sum (key_in (set_from c.args.p) c.args.list.now) c.args.i c.args.j k % c.args.p.q)
+    Sums (set_from c.args.p) c.args.i c.args.j (λ k. pair_sum (key_in (set_from c.args.p) c.args.list.now) c.args.i c.args.j k % c.args.p.set.q)
     c.args.work.now c.add.new.work
 stand c =
-    let low = part_room c.args.p.n c.args.i 6 (place-few c.requires.0 c.requires.1) in
+    let low = part_room c.args.p.set.n c.args.i 6 (place-few c.requires.0 c.requires.1) in
     let w = wrote (omega (arith, shared_room c.requires.0)) c.load_sum.ensures in
     sums_stand (place-few c.requires.0 c.requires.1) c.requires.2 w (wrote (omega (arith, w.as_long, shared_room c.requires.0)) c.add.ensures)
 
@@ -57,14 +57,14 @@ add-requires-clause-in_ring c =
     let low = at s in
     let far = apart s in
     let w = wrote (omega (arith, shared_room g)) c.load_sum.ensures in (
-      λ k l. rw (w.before (c.args.i * c.args.p.n + k) (omega arith)) (mask_first s k l),
-      λ k l. rw (w.before (c.args.j * c.args.p.n + k) (omega arith)) (mask-second s k l),
+      λ k l. rw (w.before (c.args.i * c.args.p.set.n + k) (omega arith)) (mask_first s k l),
+      λ k l. rw (w.before (c.args.j * c.args.p.set.n + k) (omega arith)) (mask-second s k l),
     )
 
-pub multiply_mask-requires-clause-accepted_set : goal.multiply_mask-requires-clause-accepted_set
-multiply_mask-requires-clause-accepted_set c =
+pub multiply_mask-requires-clause-work_exact : goal.multiply_mask-requires-clause-work_exact
+multiply_mask-requires-clause-work_exact c =
     let g = c.requires.0 in
-    (g.set, (stand (goal.at.multiply_mask-requires-clause-accepted_set c).After-add).as_long ∙ g.work-exact, place-few g c.requires.1)
+    ((stand (goal.at.multiply_mask-requires-clause-work_exact c).After-add).as_long ∙ g.work-exact, place-few g c.requires.1)
 
 pub multiply_mask-requires-clause-in_ring : goal.multiply_mask-requires-clause-in_ring
 multiply_mask-requires-clause-in_ring c =
@@ -100,4 +100,4 @@ returns c =
     let t = c.multiply_mask.ensures in
     let long = t.is.as_long ∙ both.as_long ∙ shared_room g in
     let gained = sums_added (place-few g c.requires.1) c.requires.2 both t (mask_first s) (mask-second s) (wrote (omega arith) c.subtract.ensures) in
-    record { is = sum_cong gained.is (λ k l. cong_sums c.args.p.n c.args.p.q _ _ _ _ _ k) }
+    record { is = sum_cong gained.is (λ k l. cong_sums c.args.p.set.n c.args.p.set.q _ _ _ _ _ k) }

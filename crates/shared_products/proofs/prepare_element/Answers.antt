@@ -21,38 +21,38 @@ begun c = inputs-kept c.requires.key_and_mask.0 c.clear_sum.ensures.mask c.clear
 
 -- the key's element in part 6
 filled : (c : After-load_key) →
-    Wrote (6 * c.args.p.n) c.args.p.n (polynomial_from (set_from c.args.p) c.args.public.now c.args.i) c.clear_sum.new.work c.load_key.new.work
+    Wrote (6 * c.args.p.set.n) c.args.p.set.n (polynomial_from (set_from c.args.p) c.args.public.now c.args.i) c.clear_sum.new.work c.load_key.new.work
 filled c = wrote (omega (arith, c.clear_sum.ensures.as_long, inputs-room c.requires.key_and_mask.0)) c.load_key.ensures
 
 -- the product of the key's element and the mask's
 squared : (c : After-multiply_mask) →
     SumIs (set_from c.args.p)
-    (λ mask. conv c.args.p.n (polynomial_from (set_from c.args.p) c.args.public.now c.args.i) (mask c.args.i)) c.args.work.now c.multiply_mask.new.work
+    (λ mask. conv c.args.p.set.n (polynomial_from (set_from c.args.p) c.args.public.now c.args.i) (mask c.args.i)) c.args.work.now c.multiply_mask.new.work
 squared c =
     let w = wrote (omega (arith, c.clear_sum.ensures.as_long, inputs-room c.requires.key_and_mask.0)) c.load_key.ensures in
     let key = polynomial_from (set_from c.args.p) c.args.public.now in
     sum_then _ c.clear_sum.ensures
-    (gains_spare (λ mask. conv c.args.p.n (key c.args.i) (mask c.args.i)) w c.multiply_mask.ensures (λ k l. conv_cong c.args.p.n w.inside (λ h b. refl) k))
+    (gains_spare (λ mask. conv c.args.p.set.n (key c.args.i) (mask c.args.i)) w c.multiply_mask.ensures (λ k l. conv_cong c.args.p.set.n w.inside (λ h b. refl) k))
     (λ k l. zero-add _)
 
 pub diagonal_at-diagonal-requires : goal.diagonal_at-diagonal-requires
-diagonal_at-diagonal-requires c = (c.requires.key_and_mask.0.set, key-few c.requires.key_and_mask.0 c.requires.key_and_mask.2)
+diagonal_at-diagonal-requires c = key-few c.requires.key_and_mask.0 c.requires.key_and_mask.2
 
 pub load_key-requires : goal.load_key-requires
 load_key-requires c = (begun (goal.at.load_key-requires c).After-clear_sum, c.requires.key_and_mask.2)
 
 pub copy_from-requires : goal.copy_from-requires
 copy_from-requires c =
-    let inside = part_room c.args.p.n c.args.i (monomial_count c.args.p.dx) c.requires.key_and_mask.2 in (
+    let inside = part_room c.args.p.set.n c.args.i (monomial_count c.args.p.set.dx) c.requires.key_and_mask.2 in (
       omega (arith, inside, c.requires.list_room),
       omega (arith, (filled (goal.at.copy_from-requires c).After-load_key).as_long, c.clear_sum.ensures.as_long, inputs-room c.requires.key_and_mask.0),
     )
 
-pub multiply_mask-requires-clause-accepted_set : goal.multiply_mask-requires-clause-accepted_set
-multiply_mask-requires-clause-accepted_set c =
-    let g = begun (goal.at.multiply_mask-requires-clause-accepted_set c).After-clear_sum in
-    let w = filled (goal.at.multiply_mask-requires-clause-accepted_set c).After-load_key in
-    (g.set, w.as_long ∙ g.work-exact, key-few g c.requires.key_and_mask.2)
+pub multiply_mask-requires-clause-work_exact : goal.multiply_mask-requires-clause-work_exact
+multiply_mask-requires-clause-work_exact c =
+    let g = begun (goal.at.multiply_mask-requires-clause-work_exact c).After-clear_sum in
+    let w = filled (goal.at.multiply_mask-requires-clause-work_exact c).After-load_key in
+    (w.as_long ∙ g.work-exact, key-few g c.requires.key_and_mask.2)
 
 pub multiply_mask-requires-clause-in_ring : goal.multiply_mask-requires-clause-in_ring
 multiply_mask-requires-clause-in_ring c =
@@ -66,7 +66,7 @@ multiply_mask-requires-clause-in_ring c =
 
 pub copy_from-requires-2 : goal.copy_from-requires-2
 copy_from-requires-2 c =
-    let inside = part_room c.args.p.n c.args.i (monomial_count c.args.p.dx) c.requires.key_and_mask.2 in (
+    let inside = part_room c.args.p.set.n c.args.i (monomial_count c.args.p.set.dx) c.requires.key_and_mask.2 in (
       omega (arith, inside, c.requires.list_room, c.diagonal_at-diagonal.ensures),
       omega (arith, (squared (goal.at.copy_from-requires-2 c).After-multiply_mask).as_long, inputs-room c.requires.key_and_mask.0),
     )

@@ -1,6 +1,5 @@
 -- `product_at`: after i turns the first i rows of pairs are added, to a sum that began at 0, and all rows are the product.
 -- Assumes nothing.
-use Rattle.std.proofs.Common.{◌-◌, ◌≤◌}
 use Rattle.parameters.specs.Answers.{set_from}
 use Rattle.mask_products.specs.Products.{first_terms, SumGains}
 use Rattle.shared_products.specs.Sharing.{key_in, row_of_pairs}
@@ -8,7 +7,4 @@ use Rattle.shared_products.proofs.product_at.Given as goal
 
 abbrev pub invariant-loop-i : goal.invariant-loop-i
 invariant-loop-i l =
-    (l.i ≤ l.count) × SumGains (set_from l.p) (first_terms l.i (row_of_pairs (set_from l.p) (key_in (set_from l.p) l.list) l.m)) l.initial.work l.work
-
-abbrev pub decreases-loop-i : goal.decreases-loop-i
-decreases-loop-i l = l.count - l.i
+    SumGains (set_from l.p) (first_terms l.i (row_of_pairs (set_from l.p) (key_in (set_from l.p) l.list) l.m)) l.initial.work l.work

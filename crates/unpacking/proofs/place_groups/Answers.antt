@@ -13,9 +13,6 @@ loop-g-preserved c =
     let a = c.args in
     let l = c.loop-g in
     let room : l.g * (a.many * 8) + a.many * 8 ≤ length l.words
-    = place_end l.g (a.many * 8) c.loop-g-test.true (rw l.invariant.1 c.requires.4) in (
-      omega arith,
-      omega arith,
-      put_step (Placed a.b a.many a.octets.now) l.words (lanes_of a.b c.number.result) (a.many * 8) 4 l.g (omega arith) (omega (arith, room)) refl
-          c.place.ensures (ap (lanes_of a.b) c.number.ensures) l.invariant.2,
-    )
+    = place_end l.g (a.many * 8) c.loop-g-test.true (rw l.auto.words c.requires.4) in
+    put_step (Placed a.b a.many a.octets.now) l.words (lanes_of a.b c.number.result) (a.many * 8) 4 l.g (omega arith) (omega (arith, room)) refl
+    c.place.ensures (ap (lanes_of a.b) c.number.ensures) l.invariant

@@ -9,12 +9,12 @@ use Rattle.unpacking.proofs.spread_groups.Goals as goal
 
 pub loop-g-init : goal.loop-g-init
 unfolding groups_of
-loop-g-init c = let none = zero-mul (c.args.many * 8) in (omega arith, refl, (rw none, refl))
+loop-g-init c = let none = zero-mul (c.args.many * 8) in (rw none, refl)
 
 pub loop-g-preserved : goal.loop-g-preserved
 loop-g-preserved c =
     let a = c.args in
     let l = c.loop-g in
-    let all : a.groups * (a.many * 8) ≤ length l.words = rw l.invariant.1 c.requires.3 in
+    let all : a.groups * (a.many * 8) ≤ length l.words = rw l.auto.words c.requires.3 in
     let room : l.g * (a.many * 8) + a.many * 2 * 4 ≤ length l.words = omega (arith, place_end l.g (a.many * 8) c.loop-g-test.true all) in
-    (omega arith, omega arith, spread_step a.b a.many l.g a.words.now l.words (omega arith) room c.spread_rows.ensures l.invariant.2)
+    spread_step a.b a.many l.g a.words.now l.words (omega arith) room c.spread_rows.ensures l.invariant

@@ -1,14 +1,10 @@
 -- `unpacking::spread_rows` is right because each turn puts a row of four coefficients behind those that are there, from words read before.
 -- Assumes nothing.
-use Rattle.std.proofs.Common.{◌++◌, ◌+◌, ◌-◌, ◌*◌, ◌≤◌, ◌≡◌, length, take, drop}
+use Rattle.std.proofs.Common.{◌++◌, ◌+◌, ◌*◌, take, drop}
 use Rattle.unpacking.specs.Lanes.{rows_of}
 use Rattle.unpacking.proofs.Lanes.{NewTo}
 use Rattle.unpacking.proofs.spread_rows.Given as goal
 
 abbrev pub invariant-loop-j : goal.invariant-loop-j
 invariant-loop-j l =
-    (l.j ≤ l.rows) × (length l.words ≡ length l.initial.words)
-    × NewTo (l.at + l.j * 4) (take l.at l.initial.words ++ rows_of l.b l.j (take 4 (drop l.at l.initial.words))) l.initial.words l.words
-
-abbrev pub decreases-loop-j : goal.decreases-loop-j
-decreases-loop-j l = l.rows - l.j
+    NewTo (l.at + l.j * 4) (take l.at l.initial.words ++ rows_of l.b l.j (take 4 (drop l.at l.initial.words))) l.initial.words l.words

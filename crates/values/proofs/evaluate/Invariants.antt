@@ -1,6 +1,6 @@
 -- `evaluate` takes a row a turn, one power of y lower each time.
 -- Assumes nothing.
-use Rattle.std.proofs.Common.{◌+◌, ◌-◌, ◌*◌, ◌≤◌}
+use Rattle.std.proofs.Common.{◌+◌, ◌*◌}
 use Rattle.definitions.specs.Calls.{polynomial_in}
 use Rattle.ring.specs.Work.{part}
 use Rattle.values.specs.Horner.{row_of, fits_at, row_fits}
@@ -9,9 +9,5 @@ use Rattle.values.proofs.evaluate.Given as goal
 
 abbrev pub invariant-loop-t : goal.invariant-loop-t
 invariant-loop-t l =
-    (l.t ≤ l.d + 1)
-    × HornerAt l.n l.q (2 * l.n) l.n (row_of l.n l.d (polynomial_in l.n l.qlen l.octets) (part l.initial.work 0))
+    HornerAt l.n l.q (2 * l.n) l.n (row_of l.n l.d (polynomial_in l.n l.qlen l.octets) (part l.initial.work 0))
     (row_fits l.d (fits_at l.q l.n l.qlen l.octets)) l.initial.work l.t l.work
-
-abbrev pub decreases-loop-t : goal.decreases-loop-t
-decreases-loop-t l = l.d + 1 - l.t

@@ -1,5 +1,6 @@
 -- `read_element` reads the coefficients from the element's first octet on into a part of the work words.
 -- Assumes nothing.
+use Rattle.std.proofs.lemmas.Result.{on_ok_weaker}
 use Rattle.std.proofs.Common.{◌≡◌, ℕ, ◌+◌, ◌-◌, ◌*◌, List, length, take, drop, length-drop, ap, ap₂, ◌∙◌, arith}
 use lib.Seq.{take_all}
 use Rattle.definitions.specs.Sequences.{tabulate}
@@ -32,10 +33,13 @@ unfolding fit_number
 returns-clause-judged c = c.read.ensures.judged ∙ ap (fit_number c.args.q) (coefficients (goal.at.returns-clause-judged c).After-read)
 
 pub returns-clause-placed : goal.returns-clause-placed
-returns-clause-placed c z =
+returns-clause-placed c =
     let a = c.args in
+    on_ok_weaker c.read.result
+    (λ filled.
     let words : c.read.new.words ≡ tabulate a.n (polynomial_in a.n a.qlen a.octets.now a.element) =
-    c.read.ensures.read z ∙ coefficients (goal.at.returns-clause-placed c).After-read in
+    filled ∙ coefficients (goal.at.returns-clause-placed c).After-read in
     placed-written a.work.now c.requires.3
     (put_mid_written a.at a.n a.work.now _ (ap length words ∙ length-tabulate a.n _)
-    ∙ ap (λ (l : List ℕ). written a.at l a.work.now) words)
+    ∙ ap (λ (l : List ℕ). written a.at l a.work.now) words))
+    c.read.ensures.read

@@ -1,20 +1,20 @@
 -- `giophantus_public_key_from_octets` hands the set that the constructor accepted to `decode`, with an element for each of the monomials of degree dX.
 -- Assumes nothing.
 use Rattle.std.proofs.Common.{arith}
-use Rattle.parameters.proofs.Answers.{checked_accepted, checked_fits}
+use Rattle.parameters.proofs.Answers.{checked_accepted}
 use Rattle.giophantus.proofs.Exits.{decode_refused, degrees_most, count_most}
 use Rattle.giophantus.proofs.conversion.giophantus_public_key_from_octets.Goals as goal
 
 pub monomial_count-requires : goal.monomial_count-requires
-monomial_count-requires c = let degrees = degrees_most _ c.new.ensures c.in-Accepted.is in omega arith
+monomial_count-requires c = let degrees = degrees_most _ c.new.ensures c.in-Ok.is in omega arith
 
 pub decode-requires : goal.decode-requires
 decode-requires c =
-    let degrees = degrees_most _ c.new.ensures c.in-Accepted.is in
-    (checked_fits _ c.new.ensures c.in-Accepted.is, count_most _ c.monomial_count.ensures (omega arith))
+    let degrees = degrees_most _ c.new.ensures c.in-Ok.is in
+    count_most _ c.monomial_count.ensures (omega arith)
 
-pub returns-in-Accepted : goal.returns-in-Accepted
-returns-in-Accepted c = rw (← (checked_accepted _ c.new.ensures c.in-Accepted.is).1, ← c.monomial_count.ensures) c.decode.ensures
+pub returns-in-Ok : goal.returns-in-Ok
+returns-in-Ok c = rw (c.number.ensures, ← (checked_accepted _ c.new.ensures c.in-Ok.is).1, ← c.monomial_count.ensures) c.decode.ensures
 
-pub returns-in-Refused : goal.returns-in-Refused
-returns-in-Refused c = decode_refused _ c.new.ensures c.in-Refused.is _ _ _
+pub returns-in-Err : goal.returns-in-Err
+returns-in-Err c = rw c.from.ensures (decode_refused _ c.new.ensures c.in-Err.is _ _ _)

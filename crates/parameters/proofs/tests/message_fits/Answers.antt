@@ -6,7 +6,7 @@ use Rattle.parameters.proofs.Bounds.{small_bits-within}
 use Rattle.parameters.proofs.tests.message_fits.Goals as goal
 
 pub nonzero_rem-result : goal.nonzero_rem-result
-nonzero_rem-result c = omega (arith, small_bits-within c.args.p.l)
+nonzero_rem-result c = omega (arith, small_bits-within c.args.set.l)
 
 pub returns : goal.returns
 unfolding message_fits

@@ -1,0 +1,2 @@
+-- Laws of a run: what was read, written, kept and left to read.
+pub mod Runs
