@@ -31,12 +31,8 @@ fn add_noise(p: Parameters, noise: &[u8], m: usize, work: &mut [u32])
     let n = p.set.n as usize;
     let from = 6 * n;
     let end = from + n;
-    draws::draw_noise(
-        noise,
-        m * lengths::small_length(p.set),
-        p.set,
-        &mut work[from..end],
-    );
+    let octets = &noise[m * lengths::small_length(p.set)..];
+    draws::draw_noise(octets, p.set, &mut work[from..end]);
     ring::add_scaled(work, 7 * n, from, p.set.l, n, p.set.q);
 }
 

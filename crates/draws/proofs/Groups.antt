@@ -5,7 +5,7 @@
 --   draws_at          so many draws below q from the octets at a place on
 --   from-..          what any draws do with the group at a place;  draws_at-..: the same of draws below q
 -- Assumes nothing.
-use Prim.Native.Nat.{ℕ, suc, ◌+◌, ◌-◌, ◌*◌, ◌^◌, ◌≤◌, ◌<◌}
+use Prim.Native.Nat.{ℕ, suc, ◌+◌, ◌-◌, ◌^◌, ◌≤◌, ◌<◌}
 use native.Mathlib.Decide.{dec_lt}
 use native.Mathlib.Omega.{arith}
 use mathlib.Core.Path.{◌≡◌, ◌∙◌}
@@ -19,7 +19,7 @@ use lib.Seq.{drop-drop}
 use Rattle.definitions.specs.Parameters.{bit_length, qlen}
 use Rattle.definitions.specs.Draws.{Drawn, keep, discard, draws, grouped, group_number, draws_below}
 use Rattle.definitions.proofs.Parameters.{bit_length-below}
-use Rattle.definitions.proofs.Draws.{draws-kept, draws-dropped, draws_below-within, grouped-cons, grouped-short}
+use Rattle.definitions.proofs.Draws.{draws-kept, draws-dropped, grouped-cons, grouped-short}
 
 pub bit_length-short : (q : ℕ) → 0 < q → q < 2 ^ 31 → bit_length q < 32
 bit_length-short q pos fits =
@@ -76,7 +76,3 @@ module _ (q : ℕ) (random : List ℕ) (at : ℕ) where
   pub draws_at_ended : (count : ℕ) → length random - at < qlen q → (draws_at q random (suc count) at).enough ≡ false
   unfolding draws_below
   draws_at_ended count short = from_ended (qlen q) (group_number q) (λ x. ltb x q) random at count short
-
-  -- the groups taken are there
-  pub draws_at_within : (count : ℕ) → at ≤ length random → at + qlen q * (draws_at q random count at).groups ≤ length random
-  draws_at_within count h = omega (arith, length-drop at random, draws_below-within q count (drop at random))

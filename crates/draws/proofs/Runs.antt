@@ -2,7 +2,7 @@
 -- of q or more moves one group on, a kept one a word too, and the run ends where no word or no group is left.
 --
 --   onward           what is kept, how many groups are taken and how many of them dropped, then the rest of the run
---   Going            a run from start that has filled i words and stands at a place of the octets
+--   Going            a run that has filled i words and stands at a place of the octets
 -- Assumes nothing.
 use Prim.Native.Nat.{ℕ, suc, ◌+◌, ◌-◌, ◌^◌, ◌≤◌, ◌<◌, zero-le}
 use native.Mathlib.Nat.{add-zero, zero-add, sub-zero}
@@ -55,21 +55,20 @@ drawn_answer-whole d values groups dropped e = rw e
 
 -- ---- a run under way
 
-pub record Going (q : ℕ) (random : List ℕ) (start : ℕ) (words : List ℕ) (i at groups dropped : ℕ) : Type 0 where
+pub record Going (q : ℕ) (random words : List ℕ) (i at groups dropped : ℕ) : Type 0 where
   pub least : 0 < qlen q
   pub most : qlen q ≤ 4
   pub within : at ≤ length random
   pub counted : groups ≤ at
   pub fewer : dropped ≤ groups
-  pub whole : draws_at q random (length words) start ≡ onward (take i words) groups dropped (draws_at q random (length words - i) at)
+  pub whole : draws_below q (length words) random ≡ onward (take i words) groups dropped (draws_at q random (length words - i) at)
 
-pub going_start : (q : ℕ) (random : List ℕ) (start : ℕ) (words : List ℕ) → 0 < q → q < 2 ^ 32 → start ≤ length random
-    → Going q random start words 0 start 0 0
-going_start q random start words pos fits h =
+pub going_start : (q : ℕ) (random words : List ℕ) → 0 < q → q < 2 ^ 32 → Going q random words 0 0 0 0
+going_start q random words pos fits =
     record {
       least = qlen-least q pos fits;
       most = qlen-most q;
-      within = h;
+      within = zero-le;
       counted = zero-le;
       fewer = zero-le;
       whole = rw (sub-zero, zero-add, zero-add);
@@ -78,7 +77,7 @@ going_start q random start words pos fits h =
 one_less : {i n : ℕ} → i < n → n - i ≡ suc (n - (i + 1))
 one_less h = omega arith
 
-module _ {q : ℕ} {random : List ℕ} {start : ℕ} {words : List ℕ} {i at groups dropped : ℕ} (going : Going q random start words i at groups dropped) where
+module _ {q : ℕ} {random words : List ℕ} {i at groups dropped : ℕ} (going : Going q random words i at groups dropped) where
   -- what is read there and masked, with as many ones as q has bits
   module _ {width mask x : ℕ} (w : width ≡ qlen q) (m : mask ≡ 2 ^ bit_length q - 1) (e : x ≡ number_of (take width (drop at random)))
       (inside : i < length words) (fits : at + width ≤ length random)
@@ -86,7 +85,7 @@ module _ {q : ℕ} {random : List ℕ} {start : ℕ} {words : List ℕ} {i at gr
       group : bit_and x mask ≡ group_from q random at
       group = rw (m, and_mask, e, w)
 
-      pub going_kept : bit_and x mask < q → Going q random start (set words i (bit_and x mask)) (i + 1) (at + width) (groups + 1) dropped
+      pub going_kept : bit_and x mask < q → Going q random (set words i (bit_and x mask)) (i + 1) (at + width) (groups + 1) dropped
       going_kept below =
           let rest = draws_at q random (length words - (i + 1)) (at + width) in
           let filled : take (i + 1) (set words i (bit_and x mask)) ≡ take i words ++ (bit_and x mask ∷ []) = rw (add-one i) (take-suc-set words i _ inside) in
@@ -101,7 +100,7 @@ module _ {q : ℕ} {random : List ℕ} {start : ℕ} {words : List ℕ} {i at gr
             whole = rw (length-set, filled) (rw step at going.whole ∙ onward-kept (take i words) groups dropped (bit_and x mask) rest);
           }
 
-      pub going_dropped : q ≤ bit_and x mask → Going q random start words i (at + width) (groups + 1) (dropped + 1)
+      pub going_dropped : q ≤ bit_and x mask → Going q random words i (at + width) (groups + 1) (dropped + 1)
       going_dropped above =
           let rest = draws_at q random (length words - i) (at + width) in
           let step : draws_at q random (length words - i) at ≡ discard rest =
@@ -115,18 +114,18 @@ module _ {q : ℕ} {random : List ℕ} {start : ℕ} {words : List ℕ} {i at gr
             whole = rw step at going.whole ∙ onward-dropped (take i words) groups dropped rest;
           }
 
-  pub going_exhausted : {n : ℕ} → length words ≡ n → i < length words → length random - at < qlen q → refused 9 ≡ drawn_answer (draws_at q random n start)
+  pub going_exhausted : {n : ℕ} → length words ≡ n → i < length words → length random - at < qlen q → refused 9 ≡ drawn_answer (draws_below q n random)
   going_exhausted same inside short =
-      let ended : (draws_at q random (length words) start).enough ≡ false =
+      let ended : (draws_below q (length words) random).enough ≡ false =
       ap (λ (d : Drawn ℕ). d.enough) going.whole ∙ rw (one_less inside) (draws_at_ended q random at (length words - (i + 1)) short) in
       rw (← same) (drawn_answer-ended _ ended)
 
   pub going_complete : {n g d : ℕ} → length words ≡ n → length words ≤ i → g ≡ groups → d ≡ dropped
-      → accepted (record { values = words; groups = g; dropped = d; enough = true }) ≡ drawn_answer (draws_at q random n start)
+      → accepted (record { values = words; groups = g; dropped = d; enough = true }) ≡ drawn_answer (draws_below q n random)
   unfolding draws_below draws
   going_complete same done e f =
       let none : length words - i ≡ 0 = omega arith in
-      let whole : draws_at q random (length words) start ≡ record { values = words; groups = groups; dropped = dropped; enough = true } =
+      let whole : draws_below q (length words) random ≡ record { values = words; groups = groups; dropped = dropped; enough = true } =
       going.whole ∙ rw (none, take_all i words done, append-nil, add-zero, add-zero) in
       rw (← same, e, f) (drawn_answer-whole _ words groups dropped whole)
 

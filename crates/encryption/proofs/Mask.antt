@@ -27,12 +27,11 @@ use Rattle.definitions.specs.Calls.{elements_fit, small_of, polynomial_from, oct
 use Rattle.definitions.specs.Demand3.{AcceptedSet}
 use Rattle.definitions.proofs.Parameters.{Accepted, accepted-set, mask-degree-most}
 use Rattle.definitions.proofs.Octets.{octets_from_cong}
-use Rattle.definitions.proofs.Draws.{draws_below-values, draws_below-length}
+use Rattle.definitions.proofs.Draws.{draws_below-values, draws_below-length, draws_below-within}
 use Rattle.parameters.proofs.Bounds.{small_bits-within}
 use Rattle.draws.specs.declared.Run.{Run}
 use Rattle.parameters.specs.declared.refusals.Refusal.{Refusal}
 use Rattle.draws.specs.Runs.{said, drawn_answer}
-use Rattle.draws.proofs.Groups.{draws_at_within}
 use Rattle.draws.proofs.Runs.{said_complete}
 use Rattle.mask_products.specs.Products.{mask_in, KeyAndMask}
 use Rattle.definitions.proofs.Monomials.{count-six}
@@ -47,12 +46,12 @@ pub record MaskDrawn (p : Parameters) (random : List ℕ) (start dropped : ℕ) 
 
 pub mask-within : {p : Parameters} {random work : List ℕ} {start dropped : ℕ} → MaskDrawn p random start dropped work → start ≤ length random
 unfolding mask_used mask_draws
-mask-within {p} {random} drawn = omega (arith, drawn.taken, draws_at_within p.q random 0 (mask_coefficients p) (omega arith))
+mask-within {p} {random} drawn = omega (arith, drawn.taken, draws_below-within p.q (mask_coefficients p) random)
 
 -- a run into the first parts of the work words
 pub mask_lent : (p : Parameters) (random old new : List ℕ) (outcome : Result Run Refusal) {count : ℕ} → count ≡ monomial_count p.dr → count * p.n ≤ length old
     → length new ≡ length (take (count * p.n) old)
-    → said outcome new ≡ drawn_answer (draws_below p.q (length (take (count * p.n) old)) (drop 0 random))
+    → said outcome new ≡ drawn_answer (draws_below p.q (length (take (count * p.n) old)) random)
     → said outcome (take (mask_coefficients p) (put_mid 0 (count * p.n) old new)) ≡ drawn_answer (mask_draws p random)
 unfolding mask_draws
 mask_lent p random old new outcome {count} e room sized told =

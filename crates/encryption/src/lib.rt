@@ -26,7 +26,7 @@ fn draw_mask(p: Parameters, random: &[u8], work: &mut [u32]) -> Result<Run, Refu
     ensures { said result (take (mask_coefficients (set_from p)) work.new) ≡ drawn_answer (mask_draws (set_from p) random.now) }
 {
     let end = monomials::monomial_count(p.set.dr) * (p.set.n as usize);
-    draws::draw_below(random, 0, p.set.q, &mut work[..end])
+    draws::draw_below(random, p.set.q, &mut work[..end])
 }
 
 // With the lengths exact: the inputs are judged, the mask is drawn, and the octets left for the noise are counted before anything is

@@ -1,5 +1,5 @@
 -- What every export leaves for a set that its constructor refused: the number, and nothing is touched. For an accepted set, which is the one
--- named (checked-accepted), the call behind keeps the export's promise.
+-- named (checked_accepted), the call behind keeps the export's promise.
 --
 --   ..-refused           the refused arm of the export of each call
 --   degrees_most         the degrees of an accepted set;  count_most: so it has at most 15 monomials

@@ -1,6 +1,6 @@
 // Whether given coefficients fit (01, "Refusal table", number 8): octets and words are judged, and refused where one is not below the limit.
-// `read` takes each coefficient's value as it judges it, for callers that may write before a refusal. A judge writes nothing: it reads every
-// coefficient, 64 at a time where it can, and stops at none. The contracts cite specs/Reading.antt and the definitions'
+// `read` takes each coefficient's value as it judges it, for callers that may write before a refusal. A judge writes nothing and stops at no
+// coefficient, so that several are compared at once: of octets 64 at a time, where so many are left. The contracts cite specs/Reading.antt and the definitions'
 // coefficient_at and decoded. The loops over octets have qlen as a const parameter, so that each qlen has a loop of its own.
 #![tactic(auto)]
 

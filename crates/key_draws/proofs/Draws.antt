@@ -3,10 +3,10 @@
 --   enough_of             a run that has enough
 --   octets-room          the octets taken are among those lent;  elements-room: elements taken and dropped are no more than these
 --   halves-..            both halves, from their single draws, or that the octets ended in one of them
---   start_used           where the draws of the terms begin;  used-room: all octets used are among those lent
+--   start_used           where the draws of the terms begin;  terms_behind: they are drawn from the octets there;  used-room: all octets used are among those lent
 --   keys-..              all that is drawn for keys, or that the octets ended
 -- Assumes nothing.
-use Prim.Native.Nat.{ℕ, ◌+◌, ◌*◌, ◌≤◌}
+use Prim.Native.Nat.{ℕ, ◌+◌, ◌-◌, ◌*◌, ◌≤◌}
 use native.Mathlib.Nat.{zero-add, mul-le-mul_right}
 use native.Mathlib.Omega.{arith}
 use mathlib.Core.Path.{◌≡◌, sym, ap, ◌∙◌}
@@ -16,8 +16,8 @@ use lib.ListN.{length, take, drop}
 use lib.Seq.{slice}
 use Rattle.definitions.specs.Refusals.{first_refusal, refused, answer}
 use Rattle.definitions.specs.Parameters.{Parameters, qlen, small_length}
-use Rattle.definitions.specs.Draws.{Drawn, secret_draws}
-use Rattle.definitions.specs.Calls.{half_draws, halves_used, term_coefficients, key_draws, key_pair_of}
+use Rattle.definitions.specs.Draws.{Drawn, draws_below, secret_draws}
+use Rattle.definitions.specs.Calls.{half_draws, halves_used, key_coefficients, term_coefficients, key_draws, key_pair_of}
 use Rattle.definitions.specs.Demand3.{AcceptedSet}
 use Rattle.definitions.proofs.Parameters.{accepted-set, small_length-least}
 use Rattle.definitions.proofs.Tests.{either_second}
@@ -26,6 +26,7 @@ use Rattle.definitions.proofs.OctetsUsed.{key_used_there}
 use Rattle.draws.proofs.Runs.{drawn_answer-ended}
 use Rattle.draws.specs.Runs.{drawn_answer}
 use Rattle.std.specs.Prelude.{Ok}
+use Rattle.std.proofs.lemmas.List.{take_rest}
 use Rattle.key_draws.proofs.Parts.{slice_kept}
 use Rattle.key_draws.specs.Keys.{words_x, words_halves, words_terms, words_drawn, keys_said, keys_drawn}
 
@@ -60,9 +61,10 @@ module _ (p : Parameters) (random : List ℕ) where
     parts : half_draws p random ≡ then_drawn (enough_of (x ∷ []) g d) (after g)
     parts = split ∙ ap (λ (f : Drawn (List ℕ)). then_drawn f (after f.groups)) first
 
-    pub halves_ended_y : {start k : ℕ} → start ≡ small_length p * g → (k ≡ 9) × ((secret_draws p 1 (drop start random)).enough ≡ false)
+    pub halves_ended_y : (start : ℕ) {k : ℕ} → start ≡ small_length p * g → (k ≡ 9) × ((secret_draws p 1 (take (length random - start) (drop start random))).enough ≡ false)
         → refused k ≡ drawn_answer (half_draws p random)
-    halves_ended_y at ended = rw ended.0 (drawn_answer-ended _ (ap (λ (f : Drawn (List ℕ)). f.enough) parts ∙ (rw at at ended.1)))
+    halves_ended_y start at ended =
+        rw ended.0 (drawn_answer-ended _ (ap (λ (f : Drawn (List ℕ)). f.enough) parts ∙ (rw (take_rest random start, at) at ended.1)))
 
     halves_whole : {y : List ℕ} {h c : ℕ} → after g ≡ enough_of (y ∷ []) h c → half_draws p random ≡ enough_of (x ∷ y ∷ []) (g + h) (d + c)
     halves_whole second = parts ∙ ap (then_drawn (enough_of (x ∷ []) g d)) second
@@ -70,18 +72,23 @@ module _ (p : Parameters) (random : List ℕ) where
   -- the words of u_x, and then of u_y behind them
   pub halves_words : (mid work : List ℕ) {g d h c start : ℕ} → take p.n work ≡ take p.n mid
       → secret_draws p 1 random ≡ enough_of (slice 0 (0 + p.n) mid ∷ []) g d → start ≡ small_length p * g
-      → secret_draws p 1 (drop start random) ≡ enough_of (slice p.n (p.n + p.n) work ∷ []) h c
+      → secret_draws p 1 (take (length random - start) (drop start random)) ≡ enough_of (slice p.n (p.n + p.n) work ∷ []) h c
       → half_draws p random ≡ enough_of (words_halves p work) (g + h) (d + c)
-  halves_words mid work kept first at second =
+  halves_words mid work {start = start} kept first at second =
       let same : words_x p work ≡ slice 0 (0 + p.n) mid
       = slice_kept 0 p.n p.n mid work (omega arith) kept ∙ ap (λ (e : ℕ). slice 0 e mid) (sym (zero-add p.n)) in
-      rw same (halves_whole first (rw at at second))
+      rw same (halves_whole first (rw (take_rest random start, at) at second))
 
   -- ---- the terms behind them
 
   pub start_used : {values : List (List ℕ)} {g d : ℕ} → half_draws p random ≡ enough_of values g d → small_length p * g ≡ halves_used p random
   unfolding halves_used
   start_used e = ap (λ (f : Drawn (List ℕ)). small_length p * f.groups) (sym e)
+
+  pub terms_behind : {values : List (List ℕ)} {g d small : ℕ} → half_draws p random ≡ enough_of values g d → small ≡ small_length p
+      → draws_below p.q (key_coefficients p) (take (length random - small * g) (drop (small * g) random)) ≡ key_draws p random
+  unfolding key_draws
+  terms_behind e s = rw (s, start_used e, take_rest)
 
   pub used-room : (g : ℕ) {values : List ℕ} {h c : ℕ} → small_length p * g ≡ halves_used p random → key_draws p random ≡ enough_of values h c
       → small_length p * g + qlen p.q * h ≤ length random

@@ -16,12 +16,12 @@ use mathlib.Core.Bool.{true}
 use mathlib.Core.Logic.{⊎_elim}
 use mathlib.Core.List.{List, [], ◌∷◌}
 use borrow.Author.Tests.{eq-eqb, ne_eqb}
-use lib.ListN.{length, take, drop}
+use lib.ListN.{length, take}
 use lib.Seq.{slice}
 use borrow.Rule.Slice.PartMut.{mid_of, put_mid, mid_len}
 use Rattle.definitions.specs.Parameters.{Parameters, monomial_count}
 use Rattle.definitions.specs.Draws.{Drawn, draws_below}
-use Rattle.definitions.specs.Calls.{half_draws, drawn_x, drawn_y, halves_used, key_elements, key_coefficients, term_coefficients, key_terms, key_draws}
+use Rattle.definitions.specs.Calls.{half_draws, drawn_x, drawn_y, key_elements, key_coefficients, term_coefficients, key_terms, key_draws}
 use Rattle.definitions.specs.Demand3.{InSmallRing}
 use Rattle.definitions.proofs.Parameters.{Accepted}
 use Rattle.definitions.proofs.Monomials.{count-suc}
@@ -97,20 +97,19 @@ key_words p random work set sized halves terms =
     }
 
 -- a run of draws lent the words for the key
-pub terms_drawn : (p : Parameters) (random work words : List ℕ) (outcome : Result Run Refusal) {start stop : ℕ} → start ≡ halves_used p random → stop ≡ drawn_end p → stop ≤ length work
+pub terms_drawn : (p : Parameters) (random work words : List ℕ) (outcome : Result Run Refusal) {stop : ℕ} → stop ≡ drawn_end p → stop ≤ length work
     → length words ≡ length (mid_of (p.n + p.n) (stop - (p.n + p.n)) work)
-    → said outcome words ≡ drawn_answer (draws_below p.q (length (mid_of (p.n + p.n) (stop - (p.n + p.n)) work)) (drop start random))
-    → (said outcome (words_drawn p (put_mid (p.n + p.n) (stop - (p.n + p.n)) work words)) ≡ drawn_answer (key_draws p random))
+    → said outcome words ≡ drawn_answer (draws_below p.q (length (mid_of (p.n + p.n) (stop - (p.n + p.n)) work)) random)
+    → (said outcome (words_drawn p (put_mid (p.n + p.n) (stop - (p.n + p.n)) work words)) ≡ drawn_answer (draws_below p.q (key_coefficients p) random))
     × (take (p.n + p.n) (put_mid (p.n + p.n) (stop - (p.n + p.n)) work words) ≡ take (p.n + p.n) work)
-unfolding key_draws
-terms_drawn p random work words outcome {start} {stop} es e room sized told =
+terms_drawn p random work words outcome {stop} e room sized told =
     let at : ℕ = p.n + p.n in
     let more : at ≤ stop = omega arith in
     let given : List ℕ = put_mid at (stop - at) work words in
     let count : length (mid_of at (stop - at) work) ≡ key_coefficients p = mid_len at stop work room ∙ omega arith in
     let f : Follows at stop words work given = put_follows at stop work more room words sized in (
-      rw (← e, ← es)
+      rw (← e)
           (ap (λ (w : List ℕ). said outcome w) (follows_slice at stop words work given (omega arith) f)
-          ∙ told ∙ ap (λ (m : ℕ). drawn_answer (draws_below p.q m (drop start random))) count),
+          ∙ told ∙ ap (λ (m : ℕ). drawn_answer (draws_below p.q m random)) count),
       follows_kept at stop words work given (omega arith) f more,
     )

@@ -6,10 +6,10 @@
 // anything. What is said is the definitions' answer after the length test.
 #![tactic(auto)]
 
-ghost use Rattle.std.specs.Prelude.{◌≡◌, ◌∷◌, [], ◌+◌, ◌*◌, ◌≤◌, length, take, drop, OnOk};
+ghost use Rattle.std.specs.Prelude.{◌≡◌, ◌∷◌, [], ◌+◌, ◌*◌, ◌≤◌, length, take, OnOk};
 ghost use Rattle.std.proofs.Math.Seq.{slice};
-ghost use Rattle.definitions.specs.Draws.{secret_draws};
-ghost use Rattle.definitions.specs.Calls.{half_draws, halves_used, key_draws};
+ghost use Rattle.definitions.specs.Draws.{draws_below, secret_draws};
+ghost use Rattle.definitions.specs.Calls.{half_draws, key_coefficients};
 ghost use Rattle.parameters.specs.Answers.{set_from};
 ghost use Rattle.draws.specs.Runs.{said, drawn_answer};
 ghost use Rattle.key_draws.specs.Keys.{terms_end, drawn_end, words_halves, words_drawn, keys_said, keys_drawn, KeyWords};
@@ -26,20 +26,14 @@ pub struct KeyRun {
     pub elements: usize,
 }
 
-// An element of the secret from the random octets at a place on, into the work words at a place on.
-fn draw_half(
-    p: Parameters,
-    random: &[u8],
-    start: usize,
-    work: &mut [u32],
-    at: usize,
-) -> Result<Run, Refusal>
-    requires { (start ≤ length random.now) × (at + p.set.n ≤ length work.old) }
-    ensures drawn { said result (slice at (at + p.set.n) work.new ∷ []) ≡ drawn_answer (secret_draws (set_from p) 1 (drop start random.now)) }
+// An element of the secret from the octets, into the work words at a place on.
+fn draw_half(p: Parameters, random: &[u8], work: &mut [u32], at: usize) -> Result<Run, Refusal>
+    requires { at + p.set.n ≤ length work.old }
+    ensures drawn { said result (slice at (at + p.set.n) work.new ∷ []) ≡ drawn_answer (secret_draws (set_from p) 1 random.now) }
     ensures work_kept { take at work.new ≡ take at work.old }
 {
     let stop = at + p.set.n as usize;
-    draws::draw_secret(random, start, p.set, &mut work[at..stop])
+    draws::draw_secret(random, p.set, &mut work[at..stop])
 }
 
 // u_x, then u_y from the octets after it, into the first two parts of the work words.
@@ -48,9 +42,9 @@ fn draw_halves(p: Parameters, random: &[u8], work: &mut [u32]) -> Result<Run, Re
     ensures { said result (words_halves (set_from p) work.new) ≡ drawn_answer (half_draws (set_from p) random.now) }
 {
     let n = p.set.n as usize;
-    let x = draw_half(p, random, 0, work, 0)?;
+    let x = draw_half(p, random, work, 0)?;
     let start = lengths::small_length(p.set) * x.groups;
-    let y = draw_half(p, random, start, work, n)?;
+    let y = draw_half(p, &random[start..], work, n)?;
     Ok(Run {
         groups: x.groups + y.groups,
         dropped: x.dropped + y.dropped,
@@ -81,15 +75,15 @@ fn drawn_end(p: Parameters) -> usize
 
 // The elements of every term but the constant, and in edition 2 the constant's, from the octets after the secret's, behind the first two parts of
 // the work words.
-fn draw_terms(p: Parameters, random: &[u8], start: usize, work: &mut [u32]) -> Result<Run, Refusal>
-    requires { (start ≡ halves_used (set_from p) random.now) × (length work.old ≡ 8 * p.set.n) }
-    ensures drawn { said result (words_drawn (set_from p) work.new) ≡ drawn_answer (key_draws (set_from p) random.now) }
+fn draw_terms(p: Parameters, random: &[u8], work: &mut [u32]) -> Result<Run, Refusal>
+    requires { length work.old ≡ 8 * p.set.n }
+    ensures drawn { said result (words_drawn (set_from p) work.new) ≡ drawn_answer (draws_below p.set.q (key_coefficients (set_from p)) random.now) }
     ensures work_kept { take (p.set.n + p.set.n) work.new ≡ take (p.set.n + p.set.n) work.old }
 {
     let n = p.set.n as usize;
     let at = n + n;
     let stop = drawn_end(p);
-    draws::draw_below(random, start, p.set.q, &mut work[at..stop])
+    draws::draw_below(random, p.set.q, &mut work[at..stop])
 }
 
 // All that is drawn for keys, into the work words.
@@ -100,7 +94,7 @@ pub fn draw_keys(p: Parameters, random: &[u8], work: &mut [u32]) -> Result<KeyRu
 {
     let secret = draw_halves(p, random, work)?;
     let start = lengths::small_length(p.set) * secret.groups;
-    let terms = draw_terms(p, random, start, work)?;
+    let terms = draw_terms(p, &random[start..], work)?;
     let taken = lengths::octets_of_coefficient(p.set.q) * terms.groups;
     Ok(KeyRun {
         octets: start + taken,

@@ -7,7 +7,7 @@
 --   regrouped-add    a list regrouped, then so many places more, from the number of a group
 --   regrouped_group  one group more: so many numbers of w bits, that are so many places of v bits
 --   regrouped_parts  whole groups, a last one that may be short, and zeros
---   lent, filled      a part as code lends it; zeros filled in from a place on
+--   lent, given_rest  a part as code lends it; the rest of a list lent and given back;  filled: zeros filled in from a place on
 -- Assumes nothing.
 use Prim.Native.Nat.{ℕ, zero, suc, ◌+◌, ◌-◌, ◌*◌, ◌/◌, ◌%◌, ◌^◌, ◌≤◌, ◌<◌, min}
 use mathlib.Core.Path.{◌≡◌, refl, sym, ap, ap₂, ◌∙◌}
@@ -20,7 +20,7 @@ use native.Mathlib.Omega.{arith}
 use lib.Arith.{digits_lt}
 use lib.Pow.{pow_pos, pow-add, shr-shr, field, mod-mod-pow}
 use lib.ListN.{length, get_or, take, drop, length-drop, drop_of_length-le, replicate}
-use lib.Seq.{get_or-take, get_or-drop, take_all, length-take-le}
+use lib.Seq.{get_or-take, get_or-drop, take_all, drop-drop, length-take-le}
 use borrow.Rule.Slice.PartMut.{put_mid}
 use Rattle.definitions.specs.Sequences.{tabulate}
 use Rattle.definitions.specs.Octets.{number_of, octets_of, bit_at, regrouped}
@@ -222,6 +222,16 @@ take_stored_fields at len x l h e = rw (← octets_of_fields len x) (take_stored
 -- a part as code lends it
 pub lent : (at n : ℕ) (l : List ℕ) → take (at + n - at) (drop at l) ≡ take n (drop at l)
 lent at n l = let size : at + n - at ≡ n = omega arith in rw size
+
+-- the rest of a list as code lends it, and given back with something in front of what it had
+pub lent_rest : (at : ℕ) (l : List ℕ) → take (length l - at) (drop at l) ≡ drop at l
+lent_rest at l = take_all (length l - at) (drop at l) (omega (arith, length-drop at l))
+
+pub given_rest : (at count : ℕ) (l front : List ℕ) {part : List ℕ} → part ≡ front ++ drop count (take (length l - at) (drop at l))
+    → put_mid at (length l - at) l part ≡ take at l ++ (front ++ drop (at + count) l)
+given_rest at count l front e =
+    let none : drop (length l - at) (drop at l) ≡ [] = drop_of_length-le (drop at l) (omega (arith, length-drop at l)) in
+    rw (e, lent_rest at l, none, append-nil (front ++ drop count (drop at l)), drop-drop count at l)
 
 -- zeros filled in from a place on
 pub filled : (at : ℕ) (l : List ℕ) {part : List ℕ} → at ≤ length l → part ≡ replicate (length (take (length l - at) (drop at l))) 0

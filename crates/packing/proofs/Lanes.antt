@@ -10,11 +10,11 @@ use Prim.Native.Nat.{ℕ, zero, suc, ◌+◌, ◌*◌, ◌%◌, ◌^◌, ◌≤�
 use mathlib.Core.Path.{◌≡◌, refl, sym, ap, ◌∙◌}
 use mathlib.Core.Bool.{true}
 use mathlib.Core.List.{List, [], ◌∷◌, ◌++◌, append-nil, append_assoc}
-use native.Mathlib.Nat.{add-zero, mul-le-mul_right, le_trans, lt_of_le_of_lt}
+use native.Mathlib.Nat.{zero-add, add-zero, mul-le-mul_right, le_trans, lt_of_le_of_lt}
 use native.Mathlib.Numerals.{add-one}
 use native.Mathlib.Omega.{arith}
 use lib.Pow.{pow_pos, pow-add}
-use lib.ListN.{length, get_or, take, drop, set}
+use lib.ListN.{length, get_or, take, drop, length-drop, set}
 use Rattle.definitions.specs.Sequences.{sum, tabulate, joined}
 use Rattle.definitions.specs.Octets.{octets_of, regrouped, encoded, coefficients_fit}
 use Rattle.definitions.proofs.Filling.{tabulate_snoc, four_stored, four_read, put_step}
@@ -29,29 +29,29 @@ use Rattle.packing.proofs.Shifts.{shift_exact, value_next, value-fits}
 
 -- ---- the lanes of a group
 
-module _ (words : List ℕ) (at b : ℕ) where
-  pub lanes_whole : (rows : ℕ) → at + rows * 4 ≤ length words → value_in b (take (rows * 4) (drop at words)) ≡ value_in b (lanes_in b rows at words)
-  unfolding value_in lanes_in lane_from sum
-  lanes_whole zero h = omega arith
-  lanes_whole (suc rows) h =
-      let count : suc rows * 4 ≡ suc (suc (suc (suc (rows * 4)))) = omega arith in
-      let e1 : get_or words (at + suc (rows * 4)) 0 ≡ get_or words (at + 1 + rows * 4) 0 = ap (λ (i : ℕ). get_or words i 0) (omega arith) in
-      let e2 : get_or words (at + suc (suc (rows * 4))) 0 ≡ get_or words (at + 2 + rows * 4) 0 = ap (λ (i : ℕ). get_or words i 0) (omega arith) in
-      let e3 : get_or words (at + suc (suc (suc (rows * 4)))) 0 ≡ get_or words (at + 3 + rows * 4) 0 = ap (λ (i : ℕ). get_or words i 0) (omega arith) in
-      rw (
-        count,
-        value_next words at b (suc (suc (suc (rows * 4)))) (omega arith),
-        value_next words at b (suc (suc (rows * 4))) (omega arith),
-        value_next words at b (suc (rows * 4)) (omega arith),
-        value_next words at b (rows * 4) (omega arith),
-        weight_suc b (suc (suc (rows * 4))),
-        weight_suc b (suc (rows * 4)),
-        weight_suc b (rows * 4),
-        e1,
-        e2,
-        e3,
-        lanes_whole rows (omega arith),
-      ) (omega arith)
+pub lanes_whole : (words : List ℕ) (b rows : ℕ) → rows * 4 ≤ length words → value_in b (take (rows * 4) words) ≡ value_in b (lanes_in b rows words)
+unfolding value_in lanes_in lane_from sum
+lanes_whole words b zero h = omega arith
+lanes_whole words b (suc rows) h =
+    let count : suc rows * 4 ≡ suc (suc (suc (suc (rows * 4)))) = omega arith in
+    let e1 : get_or words (suc (rows * 4)) 0 ≡ get_or words (1 + rows * 4) 0 = ap (λ (i : ℕ). get_or words i 0) (omega arith) in
+    let e2 : get_or words (suc (suc (rows * 4))) 0 ≡ get_or words (2 + rows * 4) 0 = ap (λ (i : ℕ). get_or words i 0) (omega arith) in
+    let e3 : get_or words (suc (suc (suc (rows * 4)))) 0 ≡ get_or words (3 + rows * 4) 0 = ap (λ (i : ℕ). get_or words i 0) (omega arith) in
+    rw (
+      count,
+      value_next words b (suc (suc (suc (rows * 4)))) (omega arith),
+      value_next words b (suc (suc (rows * 4))) (omega arith),
+      value_next words b (suc (rows * 4)) (omega arith),
+      value_next words b (rows * 4) (omega arith),
+      weight_suc b (suc (suc (rows * 4))),
+      weight_suc b (suc (rows * 4)),
+      weight_suc b (rows * 4),
+      e1,
+      e2,
+      e3,
+      zero-add (rows * 4),
+      lanes_whole words b rows (omega arith),
+    ) (omega arith)
 
 -- ---- what fits
 
@@ -61,16 +61,16 @@ value-least b [] i = zero-le
 value-least b (x ∷ xs) zero = omega arith
 value-least b (x ∷ xs) (suc i) = omega (arith, value-least b xs i, mul-le-mul_right (value_in b xs) (pow_pos b))
 
-module _ (words : List ℕ) (at b rows most : ℕ) (fit : coefficients_fit (2 ^ b) words ≡ true) (few : rows ≤ most) (narrow : most * 4 * b ≤ 32)
-    (inside : at + most * 4 ≤ length words)
+module _ (words : List ℕ) (b rows most : ℕ) (fit : coefficients_fit (2 ^ b) words ≡ true) (few : rows ≤ most) (narrow : most * 4 * b ≤ 32)
+    (inside : most * 4 ≤ length words)
   where
-    all_fit : value_in b (lanes_in b rows at words) < 4294967296
+    all_fit : value_in b (lanes_in b rows words) < 4294967296
     all_fit =
         let bits : rows * 4 * b ≤ 32 = le_trans (mul-le-mul_right b (mul-le-mul_right 4 few)) narrow in
-        rw (← lanes_whole words at b rows (omega arith)) (value-fits words at b (rows * 4) fit bits)
+        rw (← lanes_whole words b rows (omega arith)) (value-fits words 0 b (rows * 4) fit bits)
 
-    pub lane_fits : (i : ℕ) → get_or (lanes_in b rows at words) i 0 < 4294967296
-    lane_fits i = lt_of_le_of_lt (value-least b (lanes_in b rows at words) i) all_fit
+    pub lane_fits : (i : ℕ) → get_or (lanes_in b rows words) i 0 < 4294967296
+    lane_fits i = lt_of_le_of_lt (value-least b (lanes_in b rows words) i) all_fit
 
 -- a lane with one coefficient more, as the code makes it
 pub lane_step : (words : List ℕ) (from b rows j : ℕ) {x row : ℕ} → coefficients_fit (2 ^ b) words ≡ true → rows * 4 * b ≤ 32 → j < rows
@@ -81,37 +81,39 @@ lane_step words from b rows j {row = row} fit narrow few inside place e =
     rw (shift_exact words b (j * 4) (rows * 4) row fit narrow (omega arith) inside, e, add-one j, place)
 
 -- the four stores
-pub lanes_stored : (l : List ℕ) (to b rows at : ℕ) (words : List ℕ) {x0 x1 x2 x3 : ℕ} → to + 4 ≤ length l → x0 ≡ lane_from b rows at words
-    → x1 ≡ lane_from b rows (at + 1) words → x2 ≡ lane_from b rows (at + 2) words → x3 ≡ lane_from b rows (at + 3) words
-    → set (set (set (set l to x0) (to + 1) x1) (to + 2) x2) (to + 3) x3 ≡ take to l ++ (lanes_in b rows at words ++ drop (to + 4) l)
+pub lanes_stored : (l : List ℕ) (b rows : ℕ) (words : List ℕ) {x0 x1 x2 x3 : ℕ} → 4 ≤ length l → x0 ≡ lane_from b rows 0 words
+    → x1 ≡ lane_from b rows 1 words → x2 ≡ lane_from b rows 2 words → x3 ≡ lane_from b rows 3 words
+    → set (set (set (set l 0 x0) 1 x1) 2 x2) 3 x3 ≡ lanes_in b rows words ++ drop 4 l
 unfolding lanes_in
-lanes_stored l to b rows at words {x0} {x1} {x2} {x3} h e0 e1 e2 e3 = rw (← e0, ← e1, ← e2, ← e3) (four_stored l to x0 x1 x2 x3 h)
+lanes_stored l b rows words {x0} {x1} {x2} {x3} h e0 e1 e2 e3 = rw (← e0, ← e1, ← e2, ← e3) (four_stored l 0 x0 x1 x2 x3 h)
 
 -- ---- four lanes joined
 
-pub four_value : (lanes : List ℕ) (at b : ℕ) → at + 4 ≤ length lanes → value_in b (take 4 (drop at lanes))
-    ≡ get_or lanes at 0 + get_or lanes (at + 1) 0 * 2 ^ b + get_or lanes (at + 2) 0 * 2 ^ (2 * b) + get_or lanes (at + 3) 0 * 2 ^ (3 * b)
+pub four_value : (lanes : List ℕ) (b : ℕ) → 4 ≤ length lanes
+    → value_in b (take 4 lanes) ≡ get_or lanes 0 0 + get_or lanes 1 0 * 2 ^ b + get_or lanes 2 0 * 2 ^ (2 * b) + get_or lanes 3 0 * 2 ^ (3 * b)
 unfolding value_in
-four_value lanes at b inside =
+four_value lanes b inside =
+    let four : take 4 lanes ≡ get_or lanes 0 0 ∷ get_or lanes 1 0 ∷ get_or lanes 2 0 ∷ get_or lanes 3 0 ∷ [] = four_read lanes 0 inside in
     let two : 2 ^ (2 * b) ≡ 2 ^ b * 2 ^ b = ap (λ (e : ℕ). 2 ^ e) (omega arith) ∙ pow-add 2 b b in
     let three : 2 ^ (3 * b) ≡ 2 ^ b * (2 ^ b * 2 ^ b)
     = ap (λ (e : ℕ). 2 ^ e) (omega arith) ∙ pow-add 2 b (b + b) ∙ ap (λ (e : ℕ). 2 ^ b * e) (pow-add 2 b b) in
-    rw (four_read lanes at inside, two, three) (omega arith)
+    rw (four, two, three) (omega arith)
 
 -- ---- the lanes of some groups
 
 -- a turn of the loop over groups that adds up lanes
 pub collect_step : (b many start g : ℕ) (words old : List ℕ) {new : List ℕ} → g * 4 + 4 ≤ length old
     → (start + g) * (many * 8) + many * 8 ≤ length words
-    → new ≡ take (g * 4) old ++ (lanes_in b (many * 2) ((start + g) * (many * 8)) words ++ drop (g * 4 + 4) old)
+    → new ≡ take (g * 4) old ++ (lanes_in b (many * 2) (drop ((start + g) * (many * 8)) words) ++ drop (g * 4 + 4) old)
     → ((k : ℕ) → k < g → lane_number b old k ≡ group_number b (many * 8) words (start + k))
     → (k : ℕ) → k < g + 1 → lane_number b new k ≡ group_number b (many * 8) words (start + k)
 unfolding lane_number lanes_in group_number
 collect_step b many start g words old room inside stored =
-    let lanes : List ℕ = lanes_in b (many * 2) ((start + g) * (many * 8)) words in
+    let own : List ℕ = drop ((start + g) * (many * 8)) words in
+    let lanes : List ℕ = lanes_in b (many * 2) own in
     let size : many * 2 * 4 ≡ many * 8 = omega arith in
     let number : value_in b lanes ≡ group_number b (many * 8) words (start + g)
-    = rw (← lanes_whole words ((start + g) * (many * 8)) b (many * 2) (omega arith), size) in
+    = rw (← lanes_whole own b (many * 2) (omega (arith, length-drop ((start + g) * (many * 8)) words)), size) in
     put_step (λ (k : ℕ) (four : List ℕ). value_in b four ≡ group_number b (many * 8) words (start + k)) old lanes 4 4 g (omega arith) (omega arith)
     refl stored number
 

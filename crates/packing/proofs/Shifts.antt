@@ -8,12 +8,12 @@ use Prim.Native.Nat.{ℕ, suc, ◌+◌, ◌*◌, ◌%◌, ◌^◌, ◌≤◌, �
 use mathlib.Core.Path.{◌≡◌}
 use mathlib.Core.Bool.{true}
 use mathlib.Core.List.{List}
-use native.Mathlib.Nat.{zero-add, suc-mul, mul_comm, mul-le-mul_right, le_trans, lt_of_lt_of_le}
+use native.Mathlib.Nat.{suc-mul, mul_comm, mul-le-mul_right, le_trans, lt_of_lt_of_le}
 use native.Mathlib.Numerals.{add-one}
 use native.Mathlib.Omega.{arith}
 use lib.Pow.{pow_mono, shl_exact}
-use lib.ListN.{length, get_or, take, drop, length-take, length-drop}
-use lib.Seq.{take-suc, get_or-drop, length-take-le}
+use lib.ListN.{length, get_or, take, drop, length-take}
+use lib.Seq.{take-suc, length-take-le}
 use Rattle.definitions.specs.Octets.{coefficients_fit}
 use Rattle.definitions.proofs.Octets.{below-take, below-drop, coefficients_fit-below, coefficients_fit_true}
 use Rattle.packing.specs.Fields.{value_in}
@@ -26,18 +26,11 @@ shift_end k count b few narrow =
     omega (arith, mul-le-mul_right b next, suc-mul k b)
 
 -- the number of one coefficient more
-pub value_next : (words : List ℕ) (at b k : ℕ) → at + k < length words
-    → value_in b (take (suc k) (drop at words)) ≡ value_in b (take k (drop at words)) + get_or words (at + k) 0 * 2 ^ (k * b)
-value_next words at b k inside =
-    let room : k < length (drop at words) = omega (arith, length-drop at words) in
-    let whole : length (take k (drop at words)) ≡ k = length-take-le k (drop at words) (omega arith) in
-    rw (
-      take-suc (drop at words) k 0 room,
-      value_snoc b (take k (drop at words)) (get_or (drop at words) k 0),
-      whole,
-      get_or-drop at words k 0,
-      mul_comm (get_or words (at + k) 0) (2 ^ (k * b)),
-    )
+pub value_next : (words : List ℕ) (b k : ℕ) → k < length words
+    → value_in b (take (suc k) words) ≡ value_in b (take k words) + get_or words k 0 * 2 ^ (k * b)
+value_next words b k inside =
+    let whole : length (take k words) ≡ k = length-take-le k words (omega arith) in
+    rw (take-suc words k 0 inside, value_snoc b (take k words) (get_or words k 0), whole, mul_comm (get_or words k 0) (2 ^ (k * b)))
 
 -- coefficients that have at most 32 bits together
 pub value-fits : (words : List ℕ) (at b count : ℕ) → coefficients_fit (2 ^ b) words ≡ true → count * b ≤ 32
@@ -63,7 +56,4 @@ shift_exact words b k count i fit narrow few inside =
 -- a sum with one coefficient more, as code makes it
 pub gather_step : (words : List ℕ) (b k : ℕ) {x : ℕ} → coefficients_fit (2 ^ b) words ≡ true → length words * b ≤ 32 → k < length words
     → x ≡ value_in b (take k words) → x + get_or words k 0 * 2 ^ (k * b) % 4294967296 ≡ value_in b (take (k + 1) words)
-gather_step words b k fit narrow few e =
-    let one : value_in b (take (suc k) words) ≡ value_in b (take k words) + get_or words k 0 * 2 ^ (k * b)
-    = rw (zero-add k) at (value_next words 0 b k (omega arith)) in
-    rw (shift_exact words b k (length words) k fit narrow few few, e, add-one k, one)
+gather_step words b k fit narrow few e = rw (shift_exact words b k (length words) k fit narrow few few, e, add-one k, value_next words b k few)

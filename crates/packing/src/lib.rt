@@ -3,7 +3,7 @@
 // list that ends early counts as going on with zeros, so the lengths are free. Unused bits are judged by `padding`, which refuses,
 // and written as zero. The contracts cite the definitions' packed and padding_clear; those of the steps also specs/Fields.antt and
 // specs/Lanes.antt. A group is added up in four lanes, of every fourth coefficient each, since the compiler then adds whole rows of four at
-// once. The loops of `pack_groups_by` are written once, with b as a const parameter, so that the compiler makes them for each b.
+// once. `pack_groups_by` has b as a const parameter, so that the compiler makes the loops over groups for each b.
 #![tactic(auto)]
 
 ghost use Rattle.std.specs.Prelude.{◌≡◌, true, ◌++◌, ℕ, ◌+◌, ◌*◌, ◌/◌, ◌^◌, ◌≤◌, ◌<◌, length, take, drop};
@@ -42,9 +42,9 @@ fn gather(words: &[u32], b: usize) -> u32
 }
 
 // The four lanes of a group: lane k adds up every fourth coefficient from coefficient k on, 4 b bits each.
-fn collect(words: &[u32], at: usize, rows: usize, b: usize, lanes: &mut [u32], to: usize)
-    requires { (1 ≤ b) × (1 ≤ rows) × (rows * 4 * b ≤ 32) × (at + rows * 4 ≤ length words.now) × (to + 4 ≤ length lanes.old) × (coefficients_fit (2 ^ b) words.now ≡ true) }
-    ensures { lanes.new ≡ take to lanes.old ++ (lanes_in b rows at words.now ++ drop (to + 4) lanes.old) }
+fn collect(words: &[u32], rows: usize, b: usize, lanes: &mut [u32])
+    requires { (1 ≤ b) × (1 ≤ rows) × (rows * 4 * b ≤ 32) × (rows * 4 ≤ length words.now) × (4 ≤ length lanes.old) × (coefficients_fit (2 ^ b) words.now ≡ true) }
+    ensures { lanes.new ≡ lanes_in b rows words.now ++ drop 4 lanes.old }
 {
     let mut first: u32 = 0;
     let mut second: u32 = 0;
@@ -52,24 +52,24 @@ fn collect(words: &[u32], at: usize, rows: usize, b: usize, lanes: &mut [u32], t
     let mut fourth: u32 = 0;
     for j in 0..rows {
         let shift = j * 4 * b;
-        let row = at + j * 4;
+        let row = j * 4;
         first += words[row] << shift;
         second += words[row + 1] << shift;
         third += words[row + 2] << shift;
         fourth += words[row + 3] << shift;
     }
-    lanes[to] = first;
-    lanes[to + 1] = second;
-    lanes[to + 2] = third;
-    lanes[to + 3] = fourth;
+    lanes[0] = first;
+    lanes[1] = second;
+    lanes[2] = third;
+    lanes[3] = fourth;
 }
 
 // The number of a group, from its four lanes.
-fn join(lanes: &[u32], at: usize, b: usize) -> u32
-    requires { (b ≤ 4) × (at + 4 ≤ length lanes.now) × (value_in b (take 4 (drop at lanes.now)) < 4294967296) }
-    ensures { result ≡ value_in b (take 4 (drop at lanes.now)) }
+fn join(lanes: &[u32], b: usize) -> u32
+    requires { (b ≤ 4) × (4 ≤ length lanes.now) × (value_in b (take 4 lanes.now) < 4294967296) }
+    ensures { result ≡ value_in b (take 4 lanes.now) }
 {
-    lanes[at] + (lanes[at + 1] << b) + (lanes[at + 2] << (2 * b)) + (lanes[at + 3] << (3 * b))
+    lanes[0] + (lanes[1] << b) + (lanes[2] << (2 * b)) + (lanes[3] << (3 * b))
 }
 
 // The four lanes of each of some groups.
@@ -85,7 +85,12 @@ fn collect_groups(
     ensures { (g : ℕ) → g < some → lane_number b lanes.new g ≡ group_number b (many * 8) words.now (start + g) }
 {
     for g in 0..some {
-        collect(words, (start + g) * (many * 8), many * 2, b, lanes, g * 4);
+        collect(
+            &words[(start + g) * (many * 8)..],
+            many * 2,
+            b,
+            &mut lanes[g * 4..],
+        );
     }
 }
 
@@ -100,7 +105,7 @@ fn join_groups(lanes: &[u32], b: usize, many: usize, start: usize, some: usize, 
             octets,
             (start + g) * (many * b),
             many * b,
-            join(lanes, g * 4, b),
+            join(&lanes[g * 4..], b),
         );
     }
 }

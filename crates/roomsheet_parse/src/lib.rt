@@ -1,6 +1,6 @@
 // Reading roomsheet's text (01, "roomsheet", with 02, Q-7): where a line ends, how many numbers it has and which, without sign or needless
-// leading zero and at most 4,294,967,295. How many a line is to have is the caller's business. The contracts cite specs/Numbers.antt, which
-// rests on the definitions' is_number, well_formed and numbers_of.
+// leading zero and at most 4,294,967,295. How many a line is to have is the caller's business. The contracts cite the definitions' is_number
+// and decimal, and specs/Numbers.antt, which rests on well_formed and numbers_of.
 #![tactic(auto)]
 
 ghost use Rattle.std.specs.Prelude.{◌≡◌, ◌+◌, ◌≤◌, length, drop, IsTrue, SomeIff};

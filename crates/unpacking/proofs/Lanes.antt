@@ -6,7 +6,7 @@
 -- Assumes nothing.
 use Prim.Native.Nat.{ℕ, zero, suc, ◌+◌, ◌*◌, ◌/◌, ◌%◌, ◌^◌, ◌≤◌, ◌<◌}
 use mathlib.Core.Path.{◌≡◌, refl, sym, ap, ap₂, ◌∙◌}
-use mathlib.Core.List.{List, ◌∷◌, ◌++◌, append_assoc}
+use mathlib.Core.List.{List, [], ◌∷◌, ◌++◌}
 use native.Mathlib.Nat.{add-zero, one-mul, zero-mul, suc-mul, le_step, lt-suc_self}
 use native.Mathlib.Numerals.{add-one}
 use native.Mathlib.Omega.{arith}
@@ -71,21 +71,19 @@ new_step words l front part n count room len put before =
     (rw (← before.0) (put_take l part n count room len put), rw none at (put_drop l part n count room len put 0) ∙ rest)
 
 -- a row of four
-pub row_step : (words l : List ℕ) (at b j : ℕ) {m : ℕ} {r : List ℕ} → m ≡ 2 ^ b → at + 4 ≤ length words → at + j * 4 + 4 ≤ length l
-    → r ≡ set (set (set (set l (at + j * 4) (get_or words at 0 / 2 ^ (j * 4 * b) % m)) (at + j * 4 + 1) (get_or words (at + 1) 0 / 2 ^ (j * 4 * b) % m))
-    (at + j * 4 + 2) (get_or words (at + 2) 0 / 2 ^ (j * 4 * b) % m)) (at + j * 4 + 3) (get_or words (at + 3) 0 / 2 ^ (j * 4 * b) % m)
-    → NewTo (at + j * 4) (take at words ++ rows_of b j (take 4 (drop at words))) words l
-    → NewTo (at + (j + 1) * 4) (take at words ++ rows_of b (j + 1) (take 4 (drop at words))) words r
+pub row_step : (words l : List ℕ) (b j : ℕ) {m : ℕ} {r : List ℕ} → m ≡ 2 ^ b → 4 ≤ length words → j * 4 + 4 ≤ length l
+    → r ≡ set (set (set (set l (j * 4) (get_or words 0 0 / 2 ^ (j * 4 * b) % m)) (j * 4 + 1) (get_or words 1 0 / 2 ^ (j * 4 * b) % m))
+    (j * 4 + 2) (get_or words 2 0 / 2 ^ (j * 4 * b) % m)) (j * 4 + 3) (get_or words 3 0 / 2 ^ (j * 4 * b) % m)
+    → NewTo (j * 4) (rows_of b j (take 4 words)) words l → NewTo ((j + 1) * 4) (rows_of b (j + 1) (take 4 words)) words r
 unfolding rows_of row_of
-row_step words l at b j modulus inside room stored before =
-    let four = take 4 (drop at words) in
-    let next : at + (j + 1) * 4 ≡ at + j * 4 + 4 = omega arith in
-    rw (next, add-one j, ← append_assoc (take at words) (rows_of b j four) (row_of b j four), four_read words at inside)
-    (new_step words l _ _ (at + j * 4) 4 (omega arith) refl (rw (stored, modulus) (four_stored l (at + j * 4) _ _ _ _ room))
-    (rw (four_read words at inside) at before))
+row_step words l b j modulus inside room stored before =
+    let next : (j + 1) * 4 ≡ j * 4 + 4 = omega arith in
+    let four : take 4 words ≡ get_or words 0 0 ∷ get_or words 1 0 ∷ get_or words 2 0 ∷ get_or words 3 0 ∷ [] = four_read words 0 inside in
+    rw (next, add-one j, four)
+    (new_step words l _ _ (j * 4) 4 (omega arith) refl (rw (stored, modulus) (four_stored l (j * 4) _ _ _ _ room)) (rw four at before))
 
-pub rows_end : (words l part : List ℕ) (at n : ℕ) → NewTo n (take at words ++ part) words l → l ≡ take at words ++ (part ++ drop n words)
-rows_end words l part at n new = sym (take-append-drop n l) ∙ rw (new.0, new.1) (append_assoc (take at words) part (drop n words))
+pub rows_end : (words l part : List ℕ) (n : ℕ) → NewTo n part words l → l ≡ part ++ drop n words
+rows_end words l part n new = sym (take-append-drop n l) ∙ rw (new.0, new.1) refl
 
 -- the rows of a group
 pub spread_step : (b many g : ℕ) (words l : List ℕ) {r : List ℕ} → 1 ≤ many → g * (many * 8) + many * 2 * 4 ≤ length l

@@ -3,7 +3,7 @@
 // group's first four words; a second pass makes rows of four coefficients of them, each row shifted by 4 b bits more. Whole rows are shifted
 // alike, so the compiler shifts four words at once. A list that ends early counts as going on with zeros, so the lengths are free; unused
 // bits are not looked at, and nothing is refused. The contract cites the definitions' unpacked, those of the steps specs/Lanes.antt. The loops
-// over groups are written once, with b as a const parameter, so that the compiler makes them for each b.
+// over groups are called with b as a const parameter, so that the compiler makes them for each b.
 #![tactic(auto)]
 
 ghost use Rattle.std.specs.Prelude.{◌≡◌, ◌++◌, ℕ, ◌+◌, ◌*◌, ◌/◌, ◌≤◌, ◌<◌, length, take, drop};
@@ -22,30 +22,30 @@ fn spread(words: &mut [u32], b: usize, x: u32)
     }
 }
 
-// A number and its shifts by b, 2 b and 3 b bits, from a place on.
-fn place(words: &mut [u32], at: usize, b: usize, x: u32)
-    requires { (1 ≤ b) × (b ≤ 4) × (at + 4 ≤ length words.old) }
-    ensures { words.new ≡ take at words.old ++ (lanes_of b x ++ drop (at + 4) words.old) }
+// A number and its shifts by b, 2 b and 3 b bits, in the first four words.
+fn place(words: &mut [u32], b: usize, x: u32)
+    requires { (1 ≤ b) × (b ≤ 4) × (4 ≤ length words.old) }
+    ensures { words.new ≡ lanes_of b x ++ drop 4 words.old }
 {
-    words[at] = x;
-    words[at + 1] = x >> b;
-    words[at + 2] = x >> (2 * b);
-    words[at + 3] = x >> (3 * b);
+    words[0] = x;
+    words[1] = x >> b;
+    words[2] = x >> (2 * b);
+    words[3] = x >> (3 * b);
 }
 
-// Rows of four coefficients from the four words at a place, which they are written over.
-fn spread_rows(words: &mut [u32], at: usize, rows: usize, b: usize)
-    requires { (1 ≤ b) × (b ≤ 4) × (1 ≤ rows) × (rows * 4 * b ≤ 32) × (at + rows * 4 ≤ length words.old) }
-    ensures { words.new ≡ take at words.old ++ (rows_of b rows (take 4 (drop at words.old)) ++ drop (at + rows * 4) words.old) }
+// Rows of four coefficients from the first four words, which they are written over.
+fn spread_rows(words: &mut [u32], rows: usize, b: usize)
+    requires { (1 ≤ b) × (b ≤ 4) × (1 ≤ rows) × (rows * 4 * b ≤ 32) × (rows * 4 ≤ length words.old) }
+    ensures { words.new ≡ rows_of b rows (take 4 words.old) ++ drop (rows * 4) words.old }
 {
     let l: u32 = 1 << b;
-    let first = words[at];
-    let second = words[at + 1];
-    let third = words[at + 2];
-    let fourth = words[at + 3];
+    let first = words[0];
+    let second = words[1];
+    let third = words[2];
+    let fourth = words[3];
     for j in 0..rows {
         let shift = j * 4 * b;
-        let row = at + j * 4;
+        let row = j * 4;
         words[row] = (first >> shift) % l;
         words[row + 1] = (second >> shift) % l;
         words[row + 2] = (third >> shift) % l;
@@ -60,8 +60,7 @@ fn place_groups(octets: &[u8], b: usize, many: usize, groups: usize, words: &mut
 {
     for g in 0..groups {
         place(
-            words,
-            g * (many * 8),
+            &mut words[g * (many * 8)..],
             b,
             decoding::number(octets, g * (many * b), many * b),
         );
@@ -74,7 +73,7 @@ fn spread_groups(words: &mut [u32], b: usize, many: usize, groups: usize)
     ensures { take (groups * (many * 8)) words.new ≡ groups_of b many groups words.old }
 {
     for g in 0..groups {
-        spread_rows(words, g * (many * 8), many * 2, b);
+        spread_rows(&mut words[g * (many * 8)..], many * 2, b);
     }
 }
 

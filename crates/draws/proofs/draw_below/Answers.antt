@@ -6,7 +6,7 @@ use Rattle.draws.proofs.draw_below.Goals as goal
 use Rattle.draws.proofs.draw_below.Goals.{else-coefficients-test, then-coefficients-test+then-random-at}
 
 pub coefficients-init : goal.coefficients-init
-coefficients-init c = (zero-le, refl, going_start _ _ _ _ c.requires.1 (omega arith) c.requires.0)
+coefficients-init c = (zero-le, refl, going_start _ _ _ c.requires.0 (omega arith))
 
 pub loop-at-preserved : goal.loop-at-preserved
 loop-at-preserved c =

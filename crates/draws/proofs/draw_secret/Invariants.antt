@@ -6,4 +6,4 @@ use Rattle.draws.proofs.Secrets.{Settling}
 use Rattle.draws.proofs.draw_secret.Given as goal
 
 abbrev pub invariant-loop-k : goal.invariant-loop-k
-invariant-loop-k l = (length l.words ≡ length l.initial.words) × Settling (numbers_from l.fn.set) l.random l.start l.k
+invariant-loop-k l = (length l.words ≡ length l.initial.words) × Settling (numbers_from l.fn.set) l.random l.k

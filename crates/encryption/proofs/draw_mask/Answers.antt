@@ -1,7 +1,6 @@
 -- `draw_mask` draws into the words that the mask's elements fill.
 -- Assumes nothing.
 use Rattle.std.proofs.Common.{◌*◌, ◌≤◌, ◌≡◌, length, arith}
-use Prim.Native.Nat.{zero-le}
 use native.Mathlib.Nat.{mul-le-mul_right}
 use lib.ListN.{length-take}
 use Rattle.definitions.proofs.Parameters.{accepted-set, modulus_positive, mask-degree-most}
@@ -42,7 +41,7 @@ slice_bounds-draw_below-end-2 c =
 pub draw_below-requires : goal.draw_below-requires
 draw_below-requires c =
     let set = accepted-set _ c.args.p.accepted in
-    (zero-le, modulus_positive _ set, omega (arith, set.modulus-most))
+    (modulus_positive _ set, omega (arith, set.modulus-most))
 
 pub returns : goal.returns
 returns c =

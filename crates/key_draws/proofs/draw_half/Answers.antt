@@ -10,8 +10,8 @@ use Rattle.key_draws.proofs.draw_half.Goals as goal
 pub draw_secret-requires : goal.draw_secret-requires
 draw_secret-requires c =
     let a : Accepted (set_from c.args.p) = accepted-set _ c.args.p.accepted in
-    (c.requires.0, omega (arith, a.ring_least), small_length-least _ a, mid_len c.args.at (c.args.at + c.args.p.set.n) c.args.work.now c.requires.1 ∙ omega arith)
+    (omega (arith, a.ring_least), small_length-least _ a, mid_len c.args.at (c.args.at + c.args.p.set.n) c.args.work.now c.requires ∙ omega arith)
 
 pub returns-clause-drawn : goal.returns-clause-drawn
 returns-clause-drawn c =
-    (half_drawn (set_from c.args.p) c.args.work.now _ c.draw_secret.result _ c.args.at c.requires.1 c.draw_secret.auto.words c.draw_secret.ensures).0
+    (half_drawn (set_from c.args.p) c.args.work.now _ c.draw_secret.result _ c.args.at c.requires c.draw_secret.auto.words c.draw_secret.ensures).0

@@ -52,16 +52,18 @@ returns-in_err-x c =
 pub overflow_mul-start : goal.overflow_mul-start
 overflow_mul-start c = record { fits = omega (arith, room (goal.at.overflow_mul-start c).After-small_length, c.well_formed) }
 
-pub draw_half-requires-2 : goal.draw_half-requires-2
-draw_half-requires-2 c =
-    (room (goal.at.draw_half-requires-2 c).After-small_length, omega (arith, c.draw_half.auto.work, c.requires))
+pub slice_bounds-draw_half-count : goal.slice_bounds-draw_half-count
+slice_bounds-draw_half-count c = room (goal.at.slice_bounds-draw_half-count c).After-small_length
+
+pub slice_bounds-draw_half-start : goal.slice_bounds-draw_half-start
+slice_bounds-draw_half-start c = room (goal.at.slice_bounds-draw_half-start c).After-small_length
 
 pub returns-in_err-y : goal.returns-in_err-y
 returns-in_err-y c =
     let s = (goal.at.returns-in_err-y c).After-small_length in
     let same = err_from_is_err_and c.from_residual-in_err-y.result c.from_residual-in_err-y.ensures.1 in
     rw (same.1, same.2)
-    (halves_ended_y (set_from c.args.p) _ (x s) (taken s) (said-exhausted _ _ c.in_err-y.was c.draw_half-2.ensures.drawn))
+    (halves_ended_y (set_from c.args.p) _ (x s) _ (taken s) (said-exhausted _ _ c.in_err-y.was c.draw_half-2.ensures.drawn))
 
 pub overflow_add-result : goal.overflow_add-result
 overflow_add-result c =
