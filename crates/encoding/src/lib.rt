@@ -7,12 +7,26 @@
 ghost use Rattle.std.specs.Prelude.{◌≡◌, ◌++◌, ◌+◌, ◌*◌, ◌%◌, ◌^◌, ◌≤◌, length, take, drop, get_or};
 ghost use Rattle.definitions.specs.Octets.{octets_of, encoded};
 
-// Up to four octets of a number, from a place on.
+// The first octets of a number, as many as LEN, from a place on.
+fn store_by<const LEN: usize>(octets: &mut [u8], at: usize, x: u32)
+    requires { (LEN ≤ 4) × (at + LEN ≤ length octets.old) }
+    ensures { octets.new ≡ take at octets.old ++ (octets_of LEN x ++ drop (at + LEN) octets.old) }
+{
+    octets[at..at + LEN].copy_from_slice(&x.to_le_bytes()[..LEN]);
+}
+
+// Up to four octets of a number, from a place on. Each count has a copy of its own: one over any count is a call of memcpy.
 pub fn store(octets: &mut [u8], at: usize, len: usize, x: u32)
     requires { (len ≤ 4) × (at + len ≤ length octets.old) }
     ensures { octets.new ≡ take at octets.old ++ (octets_of len x ++ drop (at + len) octets.old) }
 {
-    octets[at..at + len].copy_from_slice(&x.to_le_bytes()[..len]);
+    match len {
+        0 => store_by::<0>(octets, at, x),
+        1 => store_by::<1>(octets, at, x),
+        2 => store_by::<2>(octets, at, x),
+        3 => store_by::<3>(octets, at, x),
+        _ => store_by::<4>(octets, at, x),
+    }
 }
 
 // Eight octets of a number of 64 bits, from a place on.

@@ -11,14 +11,14 @@ use Prim.Native.Nat.{ℕ, suc, ◌+◌, ◌-◌, ◌*◌, ◌/◌, ◌^◌, ◌�
 use mathlib.Core.Path.{◌≡◌, refl, sym, ap, ◌∙◌}
 use mathlib.Core.Bool.{Bool, true, false, ◌&&◌, not, and-true, and-false, and_assoc}
 use mathlib.Core.List.{List, [], ◌∷◌, ◌++◌, append_assoc, append-nil}
-use native.Mathlib.Nat.{le_trans, mul-le-mul_right}
+use native.Mathlib.Nat.{le_trans}
 use Rattle.std.proofs.Math.Nat.{le-div_iff_mul-le}
 use native.Mathlib.Numerals.{add-one}
 use native.Mathlib.Decide.{dec_lt}
 use native.Mathlib.Omega.{arith}
 use lib.Dec.{ltb}
-use lib.ListN.{length, get_or, take, length-append, get_or-append}
-use lib.Seq.{take-suc, get_or-append_seam}
+use lib.ListN.{length, get_or, take, drop, length-append, length-drop, get_or-append, take-append-drop}
+use lib.Seq.{take_all, take-suc, take-add, get_or-append_seam}
 use lib.Pow.{pow_pos}
 use lib.Bits.{bit_or, or_lt, or_add_and, and_le_r, or_comm}
 use borrow.Author.Tests.{lt-ltb, le-ltb}
@@ -73,20 +73,21 @@ pub octets_none : (q qlen : ℕ) (octets : List ℕ) → coefficients_fit q (dec
 unfolding decoded tabulate
 octets_none q qlen octets = coefficients_fit_none q
 
+-- one that does not fit settles the answer
+pub octets_spoiled : (q qlen : ℕ) (octets : List ℕ) {m count : ℕ} → m ≤ count → coefficients_fit q (decoded qlen m octets) ≡ false
+    → coefficients_fit q (decoded qlen count octets) ≡ false
+unfolding decoded
+octets_spoiled q qlen octets {m} {count} h f =
+    let rest : List ℕ = tabulate (count - m) (λ j. coefficient_at qlen octets (m + j)) in
+    let end : count ≡ m + (count - m) = omega arith in
+    let parts : decoded qlen count octets ≡ decoded qlen m octets ++ rest =
+    ap (λ (n : ℕ). tabulate n (coefficient_at qlen octets)) end ∙ tabulate-add m (count - m) (coefficient_at qlen octets) in
+    rw (parts, coefficients_fit-append q rest (decoded qlen m octets), f)
+
 module _ (q qlen : ℕ) (octets : List ℕ) (m : ℕ) where
   pub octets_next : coefficients_fit q (decoded qlen (m + 1) octets) ≡ (coefficients_fit q (decoded qlen m octets) && ltb (coefficient_at qlen octets m) q)
   unfolding decoded
   octets_next = rw (add-one m, tabulate_snoc m (coefficient_at qlen octets)) (coefficients_fit_snoc q (tabulate m (coefficient_at qlen octets)) (coefficient_at qlen octets m))
-
-  -- one that does not fit settles the answer
-  octets_not : {count : ℕ} → m + 1 ≤ count → coefficients_fit q (decoded qlen (m + 1) octets) ≡ false → 8 ≡ fit_number q (decoded qlen count octets)
-  unfolding decoded
-  octets_not {count} h f =
-      let rest : List ℕ = tabulate (count - (m + 1)) (λ j. coefficient_at qlen octets (m + 1 + j)) in
-      let end : count ≡ m + 1 + (count - (m + 1)) = omega arith in
-      let parts : decoded qlen count octets ≡ decoded qlen (m + 1) octets ++ rest =
-      ap (λ (n : ℕ). tabulate n (coefficient_at qlen octets)) end ∙ tabulate-add (m + 1) (count - (m + 1)) (coefficient_at qlen octets) in
-      rw parts (fit_number_eight q (decoded qlen (m + 1) octets ++ rest) (rw (coefficients_fit-append q rest (decoded qlen (m + 1) octets), f)))
 
   module _ {r : Option ℕ} (e : reading_as r ≡ coefficient_answer q (coefficient_at qlen octets m)) where
     pub reading_below : {v : ℕ} → r ≡ Some v → v ≡ coefficient_at qlen octets m
@@ -108,7 +109,8 @@ module _ (q qlen : ℕ) (octets : List ℕ) (m : ℕ) where
     pub reading_large : r ≡ None → {count : ℕ} → m + 1 ≤ count → 8 ≡ fit_number q (decoded qlen count octets)
     unfolding coefficient_answer answer first_refusal
     reading_large h more =
-        octets_not more (rw (octets_next, go (ltb (coefficient_at qlen octets m) q) (sym (ap reading_as h) ∙ e)) (and-false (coefficients_fit q (decoded qlen m octets))))
+        fit_number_eight q _
+        (octets_spoiled q qlen octets more (rw (octets_next, go (ltb (coefficient_at qlen octets m) q) (sym (ap reading_as h) ∙ e)) (and-false (coefficients_fit q (decoded qlen m octets)))))
       where
         go : (t : Bool) → refused 8 ≡ answer [] (refuse 8 (not t) ∷ []) (coefficient_at qlen octets m) → t ≡ false
         go true e = cc
@@ -135,18 +137,50 @@ module _ (q qlen : ℕ) (octets : List ℕ) (m k : ℕ) where
       rw (tabulate-add m k (coefficient_at qlen octets))
       (coefficients_fit-append q (coefficients_from qlen octets m k) (tabulate m (coefficient_at qlen octets)))
 
--- where the octets of several coefficients lie, each read as four octets
-pub several_inside : (turn count qlen total : ℕ) → 1 ≤ qlen → turn < (count - 3) / 64 → count * qlen ≤ total → (turn * 64 + 63) * qlen + 4 ≤ total
-several_inside turn count qlen total least more room =
-    let turns : (turn + 1) * 64 ≤ count - 3 = (le-div_iff_mul-le (omega arith)).0 (omega arith) in
-    let inside : turn * 64 + 67 ≤ count = omega arith in
-    omega (arith, mul-le-mul_right qlen inside)
+  pub octets_more : coefficients_fit q (decoded qlen m octets) ≡ true → coefficients_fit q (coefficients_from qlen octets m k) ≡ true
+      → coefficients_fit q (decoded qlen (m + k) octets) ≡ true
+  octets_more e f = rw (octets_several, e, f)
+
+  pub several_spoiled : {count : ℕ} → m + k ≤ count → coefficients_fit q (coefficients_from qlen octets m k) ≡ false → coefficients_fit q (decoded qlen count octets) ≡ false
+  several_spoiled h f = octets_spoiled q qlen octets h (rw (octets_several, f) (and-false (coefficients_fit q (decoded qlen m octets))))
+
+-- where the octets of several coefficients lie, each read as four octets, of which those past its own may be the next one's
+module _ (qlen total : ℕ) (least : 1 ≤ qlen) (few : qlen ≤ 4) where
+  several_end : (turn : ℕ) → turn < (total - (4 - qlen)) / (64 * qlen) → (turn + 1) * (64 * qlen) ≤ total - (4 - qlen)
+  several_end turn more = (le-div_iff_mul-le (omega arith)).0 (omega arith)
+
+  pub several_inside : (turn : ℕ) → turn < (total - (4 - qlen)) / (64 * qlen) → (turn * 64 + 63) * qlen + 4 ≤ total
+  several_inside turn more = omega (arith, several_end turn more)
+
+  pub several_count : (turn : ℕ) → turn ≤ (total - (4 - qlen)) / (64 * qlen) → turn * 64 ≤ total / qlen
+  several_count turn most =
+      let inside : turn * (64 * qlen) ≤ total - (4 - qlen) = (le-div_iff_mul-le (omega arith)).0 most in
+      (le-div_iff_mul-le least).1 (omega (arith, inside))
 
 -- ---- coefficients in words
 
 pub words_next : (q : ℕ) (words : List ℕ) (m : ℕ) → m < length words
     → coefficients_fit q (take (m + 1) words) ≡ (coefficients_fit q (take m words) && ltb (get_or words m 0) q)
 words_next q words m h = rw (add-one m, take-suc words m 0 h) (coefficients_fit_snoc q (take m words) (get_or words m 0))
+
+module _ (q : ℕ) (words : List ℕ) (m k : ℕ) where
+  words_several : coefficients_fit q (take (m + k) words) ≡ (coefficients_fit q (take m words) && coefficients_fit q (take k (drop m words)))
+  words_several = rw (take-add m k words) (coefficients_fit-append q (take k (drop m words)) (take m words))
+
+  pub words_more : coefficients_fit q (take m words) ≡ true → coefficients_fit q (take k (drop m words)) ≡ true → coefficients_fit q (take (m + k) words) ≡ true
+  words_more e f = rw (words_several, e, f)
+
+  pub words_spoiled : coefficients_fit q (take k (drop m words)) ≡ false → coefficients_fit q words ≡ false
+  words_spoiled f =
+      let none : coefficients_fit q (take (m + k) words) ≡ false = rw (words_several, f) (and-false (coefficients_fit q (take m words))) in
+      ap (coefficients_fit q) (sym (take-append-drop (m + k) words)) ∙ rw (coefficients_fit-append q (drop (m + k) words) (take (m + k) words), none)
+
+pub words_rest : (q : ℕ) (words : List ℕ) (m : ℕ) → coefficients_fit q (take m words) ≡ true
+    → coefficients_fit q (take (length words - m) (drop m words)) ≡ coefficients_fit q words
+words_rest q words m e =
+    let whole : coefficients_fit q words ≡ coefficients_fit q (drop m words) =
+    ap (coefficients_fit q) (sym (take-append-drop m words)) ∙ rw (coefficients_fit-append q (drop m words) (take m words), e) in
+    rw (take_all (length words - m) (drop m words) (omega (arith, length-drop m words))) (sym whole)
 
 -- ---- bits
 

@@ -1,7 +1,8 @@
 // Whether given coefficients fit (01, "Refusal table", number 8): octets and words are judged, and refused where one is not below the limit.
-// `read` takes each coefficient's value as it judges it, for callers that may write before a refusal. A judge writes nothing and stops at no
-// coefficient, so that several are compared at once: of octets 64 at a time, where so many are left. The contracts cite specs/Reading.antt and the definitions'
-// coefficient_at and decoded. The loops over octets have qlen as a const parameter, so that each qlen has a loop of its own.
+// `read` takes each coefficient's value as it judges it, for callers that may write before a refusal. A judge writes nothing: it reads several
+// coefficients at a time, so that they are compared at once, refuses at the first of these where one is too large, and reads the octets left
+// one by one; small words it reads all at once. The contracts cite specs/Reading.antt and the definitions' coefficient_at and decoded. The
+// loops over octets have qlen as a const parameter, so that each qlen has a loop of its own.
 #![tactic(auto)]
 
 ghost use Rattle.std.specs.Prelude.{◌≡◌, ◌+◌, ◌*◌, ◌/◌, ◌^◌, ◌≤◌, length, OnOk};
@@ -38,21 +39,30 @@ fn several_fit<const QLEN: usize>(octets: &[u8], m: usize, q: u32) -> bool
     fit
 }
 
-// Refused where a coefficient in the octets is not below q: four octets can be read at once where three coefficients more follow.
+// The coefficient at place m; none where the number there is not below q.
+fn coefficient_at(octets: &[u8], m: usize, qlen: usize, q: u32) -> Option<u32>
+    requires { (1 ≤ qlen) × (qlen ≤ 4) × (m * qlen + qlen ≤ length octets.now) }
+    ensures { reading_as result ≡ coefficient_answer q (coefficient_at qlen octets.now m) }
+{
+    let x = decoding::number(octets, m * qlen, qlen);
+    if x < q { Some(x) } else { None }
+}
+
+// Refused where a coefficient in the octets is not below q: 64 at a time while so many can be read as four octets each, then one by one.
 fn judge_by<const QLEN: usize>(octets: &[u8], q: u32) -> Result<(), Refusal>
     requires { (1 ≤ QLEN) × (QLEN ≤ 4) }
     ensures { number_in result ≡ fit_number q (decoded QLEN (length octets.now / QLEN) octets.now) }
 {
-    let count = octets.len() / QLEN;
-    let turns = count.saturating_sub(3) / SEVERAL;
-    let mut fit = true;
+    let turns = octets.len().saturating_sub(4 - QLEN) / (SEVERAL * QLEN);
     for turn in 0..turns {
-        fit &= several_fit::<QLEN>(octets, turn * SEVERAL, q);
+        refuse_unless(several_fit::<QLEN>(octets, turn * SEVERAL, q))?;
     }
-    for m in turns * SEVERAL..count {
-        fit &= decoding::number(octets, m * QLEN, QLEN) < q;
+    for m in turns * SEVERAL..octets.len() / QLEN {
+        let Some(_) = coefficient_at(octets, m, QLEN, q) else {
+            return Err(Refusal::Coefficient);
+        };
     }
-    refuse_unless(fit)
+    Ok(())
 }
 
 // Refused where a coefficient in the octets is not below q.
@@ -66,15 +76,6 @@ pub fn judge(octets: &[u8], qlen: usize, q: u32) -> Result<(), Refusal>
         3 => judge_by::<3>(octets, q),
         _ => judge_by::<4>(octets, q),
     }
-}
-
-// The coefficient at place m; none where the number there is not below q.
-fn coefficient_at(octets: &[u8], m: usize, qlen: usize, q: u32) -> Option<u32>
-    requires { (1 ≤ qlen) × (qlen ≤ 4) × (m * qlen + qlen ≤ length octets.now) }
-    ensures { reading_as result ≡ coefficient_answer q (coefficient_at qlen octets.now m) }
-{
-    let x = decoding::number(octets, m * qlen, qlen);
-    if x < q { Some(x) } else { None }
 }
 
 // The coefficients of the octets, into words, up to one that is too large.
@@ -106,15 +107,31 @@ pub fn read(octets: &[u8], qlen: usize, q: u32, words: &mut [u32]) -> Result<(),
     }
 }
 
-// Refused where a word is not below q.
-pub fn judge_words(words: &[u32], q: u32) -> Result<(), Refusal>
-    ensures { number_in result ≡ fit_number q words.now }
+// Whether all words are below q. The loop stops at none, so that the compiler compares several at once.
+fn words_fit(words: &[u32], q: u32) -> bool
+    ensures { result ≡ coefficients_fit q words.now }
 {
     let mut fit = true;
     for word in words {
         fit &= *word < q;
     }
-    refuse_unless(fit)
+    fit
+}
+
+// How many words are judged at once.
+const SEVERAL_WORDS: usize = 32;
+
+// Refused where a word is not below q: 32 at a time, then those left.
+pub fn judge_words(words: &[u32], q: u32) -> Result<(), Refusal>
+    ensures { number_in result ≡ fit_number q words.now }
+{
+    let turns = words.len() / SEVERAL_WORDS;
+    for turn in 0..turns {
+        let from = turn * SEVERAL_WORDS;
+        let stop = from + SEVERAL_WORDS;
+        refuse_unless(words_fit(&words[from..stop], q))?;
+    }
+    refuse_unless(words_fit(&words[turns * SEVERAL_WORDS..], q))
 }
 
 // Refused where a word is not below 2^b: a number is below it just where its bits are, and so are the bits of all of them together.

@@ -1,7 +1,8 @@
 -- Why what is drawn stands where it should: each draw is lent just its own words, behind those that were drawn before.
 --
 --   terms_end-room        the words of the terms, and one element more, lie inside the work words
---   elements_drawn       how many elements are drawn, by the edition's number;  drawn_end-room: all that is drawn lies inside the work words
+--   drawn_end-first, drawn_end-second   in edition 2 one element more is drawn;  drawn_end-room: all that is drawn lies inside the work words
+--   elements_drawn       how many elements are drawn, by the edition's number
 --   terms-front          the terms stand in front of what is drawn
 --   half_drawn           a draw lent the words of a half leaves its element there;  halves_kept: both halves where they are as they were
 --   key_words            what is asked of the work words holds once all is drawn
@@ -9,12 +10,12 @@
 -- Assumes nothing.
 use Prim.Native.Nat.{ℕ, ◌+◌, ◌-◌, ◌*◌, ◌≤◌}
 use native.Mathlib.Nat.{mul-le-mul_right}
-use native.Mathlib.Decide.{ℕ_discrete as dec_eq}
 use native.Mathlib.Omega.{arith}
-use mathlib.Core.Path.{◌≡◌, ap, ap₂, subst, ◌∙◌}
-use mathlib.Core.Bool.{true}
+use mathlib.Core.Path.{◌≡◌, refl, ap, ap₂, subst, ◌∙◌}
+use mathlib.Core.Bool.{Bool, true, false}
 use mathlib.Core.Logic.{⊎_elim}
 use mathlib.Core.List.{List, [], ◌∷◌}
+use lib.Dec.{eqb}
 use borrow.Author.Tests.{eq-eqb, ne_eqb}
 use lib.ListN.{length, take}
 use lib.Seq.{slice}
@@ -53,12 +54,20 @@ module _ (p : Parameters) (a : Accepted p) where
   pub terms_end-room : terms_end p + p.n ≤ 8 * p.n
   terms_end-room = omega (arith, mul-le-mul_right p.n others_most)
 
+  pub drawn_end-first : eqb p.edition 2 ≡ false → terms_end p ≡ drawn_end p
+  unfolding key_elements
+  drawn_end-first e = rw e
+
+  pub drawn_end-second : eqb p.edition 2 ≡ true → terms_end p + p.n ≡ drawn_end p
+  unfolding key_elements
+  drawn_end-second e = rw e (omega (arith, ap (λ (m : ℕ). m * p.n) (count-suc p.dx)))
+
   drawn_end-room : drawn_end p ≤ 8 * p.n
-  drawn_end-room =
-      elim (dec_eq p.edition 2) [
-        | yes e ↦ omega (arith, elements_second p p.n e, terms_end-room)
-        | no e ↦ omega (arith, ap (λ (m : ℕ). m * p.n) (elements_first p e), terms_end-room)
-      ]
+  drawn_end-room = go (eqb p.edition 2) refl
+    where
+      go : (t : Bool) → eqb p.edition 2 ≡ t → drawn_end p ≤ 8 * p.n
+      go true e = omega (arith, drawn_end-second e, terms_end-room)
+      go false e = omega (arith, drawn_end-first e, terms_end-room)
 
   pub terms-front : (work : List ℕ) → length work ≡ 8 * p.n → take (term_coefficients p) (words_drawn p work) ≡ words_terms p work
   terms-front work sized =

@@ -125,7 +125,7 @@ pub fn copy_from(to: &mut [u32], at: usize, from: &[u32], start: usize, n: usize
     requires { (at + n ≤ length to.old) × (start + n ≤ length from.now) }
     ensures { to.new ≡ written at (tabulate n (part from.now start)) to.old }
 {
-    to[at..at + n].copy_from_slice(&from[start..start + n]);
+    combine_from(to, at, from, start, n, |_, b| b);
 }
 
 // All words 0.

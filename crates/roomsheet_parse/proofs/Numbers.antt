@@ -106,7 +106,7 @@ module _ (field : Text) (value i : ℕ) (r : Reading field value i) where
 
 -- ---- a number, by its digits
 
-exchange : (a b c : Bool) → (a && (b && c)) ≡ (b && (a && c))
+pub exchange : (a b c : Bool) → (a && (b && c)) ≡ (b && (a && c))
 exchange true b c = refl
 exchange false true c = refl
 exchange false false c = refl

@@ -1,12 +1,19 @@
 // Reading roomsheet's text (01, "roomsheet", with 02, Q-7): where a line ends, how many numbers it has and which, without sign or needless
 // leading zero and at most 4,294,967,295. How many a line is to have is the caller's business. The contracts cite the definitions' is_number
-// and decimal, and specs/Numbers.antt, which rests on well_formed and numbers_of.
+// and decimal, and specs/Numbers.antt, which rests on these, well_formed and numbers_of.
 #![tactic(auto)]
 
 ghost use Rattle.std.specs.Prelude.{◌≡◌, ◌+◌, ◌≤◌, length, drop, IsTrue, SomeIff};
 ghost use Rattle.definitions.specs.Roomsheet.{decimal, is_number};
 ghost use Rattle.roomsheet_parse.specs.Parts.{up_to};
-ghost use Rattle.roomsheet_parse.specs.Numbers.{digits_fit, NumbersRead};
+ghost use Rattle.roomsheet_parse.specs.Numbers.{digits_fit, Finds, NumbersRead};
+
+// A number of a line, and the place past it.
+#[derive(Clone, Copy)]
+pub struct Number {
+    pub value: u32,
+    pub next: usize,
+}
 
 const SPACE: u8 = b' ';
 
@@ -45,7 +52,7 @@ fn read_digits(field: &[u8]) -> Option<u32>
 
 // The number that a field writes: digits, at least one, and the first of several above zero.
 #[tactic(auto, using(crate::proofs::Numbers::number_empty, crate::proofs::Numbers::number_zero, crate::proofs::Numbers::number_rest))]
-pub fn parse_number(field: &[u8]) -> Option<u32>
+pub fn read_number(field: &[u8]) -> Option<u32>
     ensures { SomeIff result (IsTrue (is_number field.now)) (decimal field.now) }
 {
     if field.is_empty() {
@@ -57,6 +64,20 @@ pub fn parse_number(field: &[u8]) -> Option<u32>
     read_digits(field)
 }
 
+// The number at a place, which ends at the next space or at the line's end; None where what stands there is no number.
+pub fn parse_number(line: &[u8], from: usize) -> Option<Number>
+    requires { from ≤ length line.now }
+    ensures { Finds is_number line.now from result }
+{
+    let rest = &line[from..];
+    let end = rest.iter().position(|c| *c == SPACE).unwrap_or(rest.len());
+    let value = read_number(&rest[..end])?;
+    Some(Number {
+        value,
+        next: from + end,
+    })
+}
+
 // How many numbers a line has, with one space between, in at most 80 octets: they go to the front of `numbers`, in one reading. None where
 // the line is malformed, or has more numbers than there is room for.
 pub fn parse_numbers(line: &[u8], numbers: &mut [u32]) -> Option<usize>
@@ -65,13 +86,14 @@ pub fn parse_numbers(line: &[u8], numbers: &mut [u32]) -> Option<usize>
     if LINE_MOST < line.len() {
         return None;
     }
-    let mut count = 0;
-    for field in line.split(|c| *c == SPACE) {
-        if count == numbers.len() {
-            return None;
+    let mut at = 0;
+    for count in 0..numbers.len() {
+        let Number { value, next } = parse_number(line, at)?;
+        numbers[count] = value;
+        if next == line.len() {
+            return Some(count + 1);
         }
-        numbers[count] = parse_number(field)?;
-        count += 1;
+        at = next + 1;
     }
-    Some(count)
+    None
 }

@@ -1,8 +1,8 @@
--- `parse_numbers` meets its contract: so many fields as were split off are numbers, and stand in front.
+-- `parse_numbers` meets its contract: after so many fields, the line is well formed with so many numbers where the rest is with as many fewer,
+-- and the numbers stored with those of the rest are the line's.
 -- Assumes nothing.
-use Rattle.std.proofs.Common.{◌≡◌, length}
 use Rattle.roomsheet_parse.proofs.Fields.{Progress}
 use Rattle.roomsheet_parse.proofs.parse_numbers.Given as goal
 
-abbrev pub invariant-loop-field : goal.invariant-loop-field
-invariant-loop-field l = (l.count ≡ length l.yielded) × Progress l.line l.fn.numbers l.numbers l.count
+abbrev pub invariant-loop-count : goal.invariant-loop-count
+invariant-loop-count l = Progress l.line l.fn.numbers l.numbers l.at l.count
