@@ -2,26 +2,26 @@
 --
 --   digits_read           whether digits, after those that wrote x, are digits and never pass 4,294,967,295
 --   digits_fit_read       that is the test of the whole field, since a number only grows
---   Reading              what holds at a place of the field;  reading_start, -next, -end: where it begins, one digit on, and at its end
---   Digit                an octet that goes on;  reading_digit: in a field that fits each does
---   number_..            whether a field is a number of the grammar, by how many digits there are and by the first
+--   Reading              what holds at a place of the field;  reading_start, -next, -end, -stop: where it begins, one digit on, at its end,
+--                        and at an octet that does not go on
+--   number-..            whether digits are a number of the grammar, by how many there are and by the first
 -- Assumes nothing.
 use Prim.Native.Nat.{ℕ, zero, suc, ◌+◌, ◌-◌, ◌*◌, ◌≤◌, ◌<◌}
-use native.Mathlib.Nat.{lt_of_lt_of_le}
-use native.Mathlib.Numerals.{add-one}
+use native.Mathlib.Nat.{lt_of_lt_of_le, add-zero}
 use native.Mathlib.Decide.{dec_lt}
 use native.Mathlib.Omega.{arith}
 use mathlib.Core.Path.{◌≡◌, refl, sym, ap, ◌∙◌}
 use mathlib.Core.Bool.{Bool, true, false, ◌&&◌, ◌||◌, and-true, and-false, and_assoc, or-true}
 use mathlib.Core.List.{[], ◌∷◌}
 use lib.Dec.{leb, eqb}
-use lib.ListN.{length, get_or, drop, drop_of_length-le}
-use lib.Seq.{drop-cons}
-use borrow.Author.Tests.{le-leb, lt-leb, leb-true, ne_eqb}
+use lib.ListN.{length, get_or, drop}
+use lib.Seq.{get_or-take, get_or-drop}
+use borrow.Author.Tests.{le-leb, lt-leb, ne_eqb}
 use Rattle.definitions.specs.Sequences.{every}
 use Rattle.definitions.specs.Roomsheet.{Text, is_digit, decimal_from, decimal, is_number}
-use Rattle.definitions.proofs.Tests.{both_true}
-use Rattle.roomsheet_parse.specs.Numbers.{digits_fit}
+use Rattle.roomsheet_parse.specs.Numbers.{digits_fit, field_at, Finds}
+use Rattle.std.specs.Prelude.{Some}
+use Rattle.roomsheet_parse.proofs.Parts.{take-up_to}
 
 abbrev pub digits_read : ℕ → Text → Bool
 digits_read x [] = true
@@ -67,42 +67,38 @@ digits_fit_read field = fits_read 0 field (omega arith)
 
 -- ---- the loop
 
-pub record Reading (field : Text) (value i : ℕ) : Type 0 where
-  pub fits : digits_fit field ≡ digits_read value (drop i field)
-  pub number : decimal field ≡ decimal_from value (drop i field)
+pub record Reading (line : Text) (from value i : ℕ) : Type 0 where
+  pub within : i ≤ length line
+  pub value-le : value ≤ 4294967295
+  pub fits : digits_fit (field_at line from) ≡ digits_read value (field_at line i)
+  pub number : decimal (field_at line from) ≡ decimal_from value (field_at line i)
+  pub place : from + length (field_at line from) ≡ i + length (field_at line i)
 
-pub reading_start : (field : Text) → Reading field 0 0
+pub reading_start : (line : Text) (from : ℕ) → from ≤ length line → Reading line from 0 from
 unfolding decimal
-reading_start field = record { fits = digits_fit_read field; number = refl }
+reading_start line from h =
+    record { within = h; value-le = omega arith; fits = digits_fit_read (field_at line from); number = refl; place = refl }
 
-pub record Digit (c value : ℕ) : Type 0 where
-  pub low : 48 ≤ c
-  pub high : c ≤ 57
-  pub small : 10 * value + (c - 48) ≤ 4294967295
-
-module _ (field : Text) (value i : ℕ) (r : Reading field value i) where
-  pub reading_end : length field ≤ i → (digits_fit field ≡ true) × (value ≡ decimal field)
+module _ (line : Text) (from value i : ℕ) (r : Reading line from value i) where
+  -- the field ends here
+  pub reading_end : field_at line i ≡ [] → Finds digits_fit line from (Some (record { value = value; next = i }))
   unfolding decimal_from
-  reading_end h = (r.fits ∙ rw (drop_of_length-le field h), sym (r.number ∙ rw (drop_of_length-le field h)))
+  reading_end e = (r.fits ∙ rw e, sym (r.number ∙ rw e), sym (r.place ∙ rw (e, add-zero i)))
 
-  module _ (h : i < length field) where
-    pub reading_digit : digits_fit field ≡ true → Digit (get_or field i 0) value
-    reading_digit e =
-        let c = get_or field i 0 in
-        let all : digits_read value (c ∷ drop (suc i) field) ≡ true = ap (digits_read value) (sym (drop-cons field i 0 h)) ∙ sym r.fits ∙ e in
-        let digit = both_true (is_digit c) _ all in
-        let range = both_true (leb 48 c) (leb c 57) digit.0 in
-        let small = both_true (leb (10 * value + (c - 48)) 4294967295) _ digit.1 in
-        record { low = leb-true _ _ range.0; high = leb-true _ _ range.1; small = leb-true _ _ small.0 }
+  -- the octet here is no digit, or takes the number past the largest
+  pub reading_stop : (c : ℕ) (rest : Text) → field_at line i ≡ c ∷ rest → digits_read value (c ∷ rest) ≡ false → digits_fit (field_at line from) ≡ false
+  reading_stop c rest e f = r.fits ∙ rw (e, f)
 
-    pub reading_next : (next : ℕ) → 48 ≤ get_or field i 0 → get_or field i 0 ≤ 57 → next ≡ 10 * value + (get_or field i 0 - 48) → next ≤ 4294967295 → Reading field next (i + 1)
-    unfolding decimal_from
-    reading_next next low high is small =
-        rw is
-        (record {
-          fits = r.fits ∙ rw (drop-cons field i 0 h, add-one i, le-leb 48 (get_or field i 0) low, le-leb (get_or field i 0) 57 high, le-leb (10 * value + (get_or field i 0 - 48)) 4294967295 (omega arith));
-          number = r.number ∙ rw (drop-cons field i 0 h, add-one i);
-        })
+  pub reading_next : (c : ℕ) → field_at line i ≡ c ∷ field_at line (i + 1) → i < length line → is_digit c ≡ true → 10 * value + (c - 48) ≤ 4294967295 → Reading line from (10 * value + (c - 48)) (i + 1)
+  unfolding decimal_from
+  reading_next c e h digit small =
+      record {
+        within = omega arith;
+        value-le = small;
+        fits = r.fits ∙ rw (e, digit, le-leb (10 * value + (c - 48)) 4294967295 small);
+        number = r.number ∙ rw e;
+        place = r.place ∙ rw e (omega arith);
+      }
 
 -- ---- a number, by its digits
 
@@ -122,20 +118,27 @@ is_number_digits field =
     (exchange (every (length field) (λ i. is_digit (get_or field i 0))) (first_fits field) (leb (decimal field) 4294967295))
 
 module _ (field : Text) where
+  pub number_none : digits_fit field ≡ false → is_number field ≡ false
+  number_none e = rw (is_number_digits field, e, and-false (first_fits field)) (and-false (leb 1 (length field)))
+
   pub number_empty : length field ≡ 0 → is_number field ≡ false
   number_empty e = rw (is_number_digits field, e)
 
-  pub number_zero : 1 < length field → get_or field 0 0 ≡ 48 → is_number field ≡ false
-  number_zero many h =
-      rw (is_number_digits field, ne_eqb (length field) 1 (λ e. omega arith), h) (and-false (leb 1 (length field)))
+  pub number-one : length field ≡ 1 → is_number field ≡ digits_fit field
+  number-one e = rw (is_number_digits field, e)
 
--- any other field is a number where its digits fit
-pub number_rest : (field : Text) → (length field ≡ 0 → ⊥) → (1 < length field → get_or field 0 0 ≡ 48 → ⊥) → is_number field ≡ digits_fit field
-number_rest [] some first = absurd (some refl)
-number_rest (c ∷ []) some first = rw (is_number_digits (c ∷ []))
-number_rest (c ∷ d ∷ rest) some first =
-    elim (dec_lt 48 c) [
-      | yes h ↦ rw (is_number_digits (c ∷ d ∷ rest), le-leb 49 c h, or-true (eqb (length (c ∷ d ∷ rest)) 1), le-leb 1 (length (c ∷ d ∷ rest)) (omega arith))
-      | no g ↦ let low : c < 48 = omega (arith, first (omega arith)) in
-          rw (is_number_digits (c ∷ d ∷ rest), digits_fit_read (c ∷ d ∷ rest), lt-leb 48 c low, and-false (first_fits (c ∷ d ∷ rest))) (and-false (leb 1 (length (c ∷ d ∷ rest))))
-    ]
+module _ (line : Text) (at : ℕ) (many : 1 < length (field_at line at)) where
+  first_octet : get_or (field_at line at) 0 0 ≡ get_or line at 0
+  first_octet =
+      ap (λ (t : Text). get_or t 0 0) (sym (take-up_to 32 (drop at line))) ∙ get_or-take (length (field_at line at)) (drop at line) 0 0 (omega arith)
+      ∙ get_or-drop at line 0 0 ∙ ap (λ (i : ℕ). get_or line i 0) (add-zero at)
+
+  pub number-zero : get_or line at 0 ≤ 48 → is_number (field_at line at) ≡ false
+  number-zero h =
+      rw (is_number_digits (field_at line at), first_octet, ne_eqb (length (field_at line at)) 1 (λ e. omega arith), lt-leb 49 (get_or line at 0) (omega arith))
+      (and-false (leb 1 (length (field_at line at))))
+
+  pub number_many : 48 < get_or line at 0 → is_number (field_at line at) ≡ digits_fit (field_at line at)
+  number_many h =
+      rw (is_number_digits (field_at line at), first_octet, le-leb 49 (get_or line at 0) h, or-true (eqb (length (field_at line at)) 1))
+      (rw (le-leb 1 (length (field_at line at)) (omega arith)))

@@ -1,10 +1,10 @@
 // Reading roomsheet's text (01, "roomsheet", with 02, Q-7): where a line ends, how many numbers it has and which, without sign or needless
-// leading zero and at most 4,294,967,295. How many a line is to have is the caller's business. The contracts cite the definitions' is_number
-// and decimal, and specs/Numbers.antt, which rests on these, well_formed and numbers_of.
+// leading zero and at most 4,294,967,295. How many a line is to have is the caller's business. The contracts cite the definitions' is_number,
+// and specs/Numbers.antt, which rests on is_number, decimal, well_formed and numbers_of.
 #![tactic(auto)]
 
-ghost use Rattle.std.specs.Prelude.{◌≡◌, ◌+◌, ◌≤◌, length, drop, IsTrue, SomeIff};
-ghost use Rattle.definitions.specs.Roomsheet.{decimal, is_number};
+ghost use Rattle.std.specs.Prelude.{◌≡◌, ◌+◌, ◌≤◌, length, drop};
+ghost use Rattle.definitions.specs.Roomsheet.{is_number};
 ghost use Rattle.roomsheet_parse.specs.Parts.{up_to};
 ghost use Rattle.roomsheet_parse.specs.Numbers.{digits_fit, Finds, NumbersRead};
 
@@ -21,6 +21,10 @@ const NEWLINE: u8 = b'\n';
 
 const ZERO: u8 = b'0';
 
+const NINE: u8 = b'9';
+
+const NUMBER_MOST: u64 = 4294967295;
+
 pub const LINE_MOST: usize = 80;
 
 // The place of the first newline at or after from; the text's length where there is none.
@@ -35,47 +39,53 @@ pub fn find_newline(text: &[u8], from: usize) -> usize
         .unwrap_or(rest.len())
 }
 
-// The number that digits write, up to 4,294,967,295.
-#[tactic(auto, using(crate::proofs::Numbers::reading_digit, crate::proofs::Numbers::reading_end))]
-fn read_digits(field: &[u8]) -> Option<u32>
-    ensures { SomeIff result (IsTrue (digits_fit field.now)) (decimal field.now) }
+// The digits from a place to the next space or the end, and the number that they write.
+fn read_digits(line: &[u8], from: usize) -> Option<Number>
+    requires { from ≤ length line.now }
+    ensures { Finds digits_fit line.now from result }
 {
-    let mut value = 0u32;
-    for c in field {
-        if !c.is_ascii_digit() {
+    let mut value = 0u64;
+    for i in from..line.len() {
+        let c = line[i];
+        if c == SPACE {
+            return Some(Number {
+                value: value as u32,
+                next: i,
+            });
+        }
+        if c < ZERO {
             return None;
         }
-        value = value.checked_mul(10)?.checked_add((*c - ZERO) as u32)?;
+        if NINE < c {
+            return None;
+        }
+        value = 10 * value + ((c - ZERO) as u64);
+        if NUMBER_MOST < value {
+            return None;
+        }
     }
-    Some(value)
+    Some(Number {
+        value: value as u32,
+        next: line.len(),
+    })
 }
 
-// The number that a field writes: digits, at least one, and the first of several above zero.
-#[tactic(auto, using(crate::proofs::Numbers::number_empty, crate::proofs::Numbers::number_zero, crate::proofs::Numbers::number_rest))]
-pub fn read_number(field: &[u8]) -> Option<u32>
-    ensures { SomeIff result (IsTrue (is_number field.now)) (decimal field.now) }
-{
-    if field.is_empty() {
-        return None;
-    }
-    if field.len() > 1 && field[0] == ZERO {
-        return None;
-    }
-    read_digits(field)
-}
-
-// The number at a place, which ends at the next space or at the line's end; None where what stands there is no number.
+// The number at a place: digits up to the next space or the end, at least one, and the first of several above zero.
 pub fn parse_number(line: &[u8], from: usize) -> Option<Number>
     requires { from ≤ length line.now }
     ensures { Finds is_number line.now from result }
 {
-    let rest = &line[from..];
-    let end = rest.iter().position(|c| *c == SPACE).unwrap_or(rest.len());
-    let value = read_number(&rest[..end])?;
-    Some(Number {
-        value,
-        next: from + end,
-    })
+    let number = read_digits(line, from)?;
+    if number.next == from {
+        return None;
+    }
+    if number.next == from + 1 {
+        return Some(number);
+    }
+    if line[from] <= ZERO {
+        return None;
+    }
+    Some(number)
 }
 
 // How many numbers a line has, with one space between, in at most 80 octets: they go to the front of `numbers`, in one reading. None where

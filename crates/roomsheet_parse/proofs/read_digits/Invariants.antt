@@ -3,5 +3,5 @@
 use Rattle.roomsheet_parse.proofs.Numbers.{Reading}
 use Rattle.roomsheet_parse.proofs.read_digits.Given as goal
 
-abbrev pub invariant-loop-c : goal.invariant-loop-c
-invariant-loop-c l = Reading l.field l.value l.c-index
+abbrev pub invariant-loop-i : goal.invariant-loop-i
+invariant-loop-i l = Reading l.line l.from l.value l.i
